@@ -1,4 +1,4 @@
--- Entries by slot and the lists in which they stand.
+-- Entries by slot and the lists that they are in.
 use Rattle.std.proofs.Common.{◌≡◌, ℕ, ◌+◌, ◌*◌, ◌<◌, ◌%◌, ◌/◌, Bool, true, false, cond, ◌⊎◌, inl, inr, List, [], ◌∷◌, Option, Some, None, length, set, refl, sym, ap, subst, ◌∙◌, arith}
 use Rattle.std.specs.Prelude.{◌==◌, nat_le, slice_get}
 use Rattle.std.proofs.lemmas.List.{get_or-set_same, get_or-set_other}
@@ -59,14 +59,14 @@ pub bucket-below : (m d : ℕ) → bucket_of m d < 513
 bucket-below m d = three-below (nat_le d m) (d / 256 == m / 256) (d / 65536 == m / 65536) (m % 256) (d % 256) ((d / 256) % 256) (omega arith) (omega arith) (omega arith)
 
 module _ (m : ℕ) (cells : List (Option Deadline)) (lists : List (List ℕ)) (f : AreFiled m cells lists) where
-  -- a slot with an entry stands in a list
+  -- a slot with an entry is in a list
   pub listed : (s : ℕ) (e : Deadline) → cell_at s cells ≡ Some e → IsListed s lists
   listed s e h =
       let b = bucket_of m e.at in
       let one : belongs m b (cell_at s cells) ≡ 1 = ap (belongs m b) h ∙ ap one_if (test-self b) in
       (b, bucket-below m e.at, let c = f b s in omega (arith, c, one))
 
-  -- and one without stands in none
+  -- a slot without an entry is in no list
   pub unlisted : (s b : ℕ) → cell_at s cells ≡ None → count_in s (list_at b lists) ≡ 0
   unlisted s b h = f b s ∙ ap (belongs m b) h
 

@@ -72,7 +72,7 @@ passes_one P p (x ∷ xs) h l = elim (p x) as (λ t. p x ≡ t → 0 < one_if t 
   | false ↦ (λ e k. passes_one P p xs h.1 (omega (arith, k)))
 ] refl (let c = tally-cons p x xs in omega (arith, l, c))
 
--- ---- Ordered lists are equal where as many pass each test
+-- ---- Ordered lists are equal where the same number pass each test
 
 abbrev is_it : Deadline → Deadline → Bool
 is_it d e = d.at == e.at && (d.op.slot == e.op.slot && d.op.generation == e.op.generation)
@@ -141,7 +141,7 @@ own_tail k c cs own i e h = let w = own (suc i) e h in omega (arith, w)
 pub own_head : (k : ℕ) (e : Deadline) (cs : List (Option Deadline)) → OwnFrom k (Some e ∷ cs) → e.op.slot ≡ k
 own_head k e cs own = let w = own 0 e refl in omega (arith, w)
 
--- how many of a cell pass a test
+-- how many entries of a cell pass a test
 abbrev pub in_cell : (Deadline → Bool) → Option Deadline → ℕ
 in_cell p None = 0
 in_cell p (Some e) = one_if (p e)
@@ -221,7 +221,7 @@ count_two x xs y once l e =
     here : (a b : ℕ) → a ≡ b → (a == b) ≡ true
     here a b h = grind (arith, nat_tests)
 
--- entries of different slots of which none comes before an earlier one stand in order
+-- entries of different slots none of which comes before an earlier one are in order
 pub ordered_from : (xs : List Deadline) → ((i j : ℕ) (d : Deadline) → i < j → j < length xs → is_before (get_or xs j d) (get_or xs i d) ≡ false) → ((slot : ℕ) → count_of slot xs ≤ 1) → IsOrdered xs
 ordered_from [] h once = tt
 ordered_from (x ∷ xs) h once = (

@@ -26,7 +26,7 @@ module _ (n : ℕ) (nx pv : List ℕ) (r : AreRings n nx pv) (b c : ℕ) (lb : b
     let a = r.apart i b c lb lc ne in omega (arith, a, h),
   )
 
--- rings that are as said keep what holds of rings
+-- rings that are as stated keep what holds of rings
 settled : (n : ℕ) (nx' pv' : List ℕ) (f : ℕ → List ℕ) → length nx' ≡ n + 513 → length pv' ≡ n + 513
     → ((c : ℕ) → c < 513 → Links nx' pv' n (n + c) (n + c) (f c)) → ((s c : ℕ) → c < 513 → count_in s (f c) ≤ 1)
     → ((s c d : ℕ) → c < 513 → d < 513 → (c ≡ d → ⊥) → count_in s (f c) + count_in s (f d) ≤ 1)
@@ -178,7 +178,7 @@ linked n nx pv s b r lb ls free =
 abbrev none_slot : Option ℕ
 none_slot = None
 
--- the next slot, where the links have it
+-- the next slot, as the links have it
 pub after-is : (nx pv : List ℕ) (n e f : ℕ) (xs : List ℕ) (s : ℕ) → n ≤ e → Links nx pv n e f xs → 0 < count_in s xs → after s xs ≡ cond (nat_lt (get_or nx s 0) n) (Some (get_or nx s 0)) None
 after-is nx pv n e f [] s o l h = absurd (omega arith)
 after-is nx pv n e f (x ∷ xs) s o l h =
@@ -196,7 +196,7 @@ after-is nx pv n e f (x ∷ xs) s o l h =
         let some_ : nat_lt y n ≡ true = grind (arith, nat_tests) in
         subst (λ (j : ℕ). Some y ≡ cond (nat_lt j n) (Some j) None) (sym l.0) (rw some_ refl)
 
--- the first slot of a ring, where the links have it
+-- the first slot of a ring, as the links have it
 pub first-is : (nx pv : List ℕ) (n e f : ℕ) (xs : List ℕ) → n ≤ e → Links nx pv n e f xs → slice_get xs 0 ≡ cond (nat_lt (get_or nx f 0) n) (Some (get_or nx f 0)) None
 first-is nx pv n e f [] o l =
     let none : nat_lt e n ≡ false = grind (arith, nat_tests) in

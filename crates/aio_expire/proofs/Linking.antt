@@ -1,4 +1,4 @@
--- A slot joins a ring, behind its head.
+-- A slot joins a ring, after its head.
 use Rattle.std.proofs.Common.{◌≡◌, ℕ, zero, suc, ◌+◌, ◌<◌, ◌≤◌, List, [], ◌∷◌, length, get_or, refl, sym, ap, subst, ◌∙◌, arith}
 use Rattle.std.specs.Prelude.{◌==◌, nat_lt}
 use Rattle.std.proofs.lemmas.Bool.Decides.{nat_tests}
@@ -10,7 +10,7 @@ use Rattle.aio_expire.proofs.Rings.{count-other, count-same, links-kept, walked}
 one-below : (x n : ℕ) → one_if (nat_lt x (suc n)) ≡ one_if (nat_lt x n) + one_if (x == n)
 one-below x n = grind (arith, nat_tests)
 
--- how many are below n
+-- how many of the list are below n
 abbrev below_count : ℕ → List ℕ → ℕ
 below_count n [] = 0
 below_count n (x ∷ xs) = one_if (nat_lt x n) + below_count n xs
@@ -42,7 +42,7 @@ few nx pv n e f xs l once = omega (arith, below-all nx pv n e f xs l, below-few 
 pub ring-is : (nx pv : List ℕ) (n e : ℕ) (xs : List ℕ) → n ≤ e → Links nx pv n e e xs → ((s : ℕ) → count_in s xs ≤ 1) → ring nx n e ≡ xs
 ring-is nx pv n e xs o l once = walked nx pv n e e n xs o l (few nx pv n e e xs l once)
 
--- no slot that is none
+-- no number that isn't a slot
 pub none-above : (nx pv : List ℕ) (n e f : ℕ) (xs : List ℕ) (i : ℕ) → Links nx pv n e f xs → n ≤ i → count_in i xs ≡ 0
 none-above nx pv n e f [] i l h = refl
 none-above nx pv n e f (x ∷ xs) i l h =

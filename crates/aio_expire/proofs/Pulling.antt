@@ -18,7 +18,7 @@ some-inside cs s e h = elim (nat_lt s (length cs)) as (λ t. nat_lt s (length cs
   | false ↦ (λ k. let past : length cs ≤ s = grind (arith, nat_tests) in absurd (let z : None ≡ Some e = sym (get_or_past cs s None past) ∙ h in cc))
 ] refl
 
--- an entry that belongs into a bucket
+-- an entry that belongs in a bucket
 pub belongs-some : (m b : ℕ) (o : Option Deadline) → 0 < belongs m b o → (e : Deadline) × (o ≡ Some e) × (bucket_of m e.at ≡ b)
 belongs-some m b None h = absurd (omega (arith, h))
 belongs-some m b (Some e) h = elim (bucket_of m e.at == b) as (λ t. (bucket_of m e.at == b) ≡ t → 0 < one_if t → (d : Deadline) × (Some e ≡ Some d) × (bucket_of m d.at ≡ b)) [
@@ -69,7 +69,7 @@ pulled-room s es t fs r = let m = r.moved (λ d. true) in let a = tally-all fs i
 pub held-one : (cs : List (Option Deadline)) (slot : ℕ) (e : Deadline) → cell_at slot cs ≡ Some e → count_cells (λ d. true) (set cs slot None) + 1 ≡ count_cells (λ d. true) cs
 held-one cs slot e h = set-none cs slot e h (λ d. true)
 
--- an empty bucket stays so
+-- an empty bucket stays empty
 pub empty-fewer : (s : SlotEntries) (es : List Deadline) (t : SlotEntries) (fs : List Deadline) (b slot : ℕ) → IsPulled s es t fs → belongs s.turned b (cell_at slot s.cells) ≡ 0 → belongs t.turned b (cell_at slot t.cells) ≡ 0
 empty-fewer s es t fs b slot r z = ap (λ (m : ℕ). belongs m b (cell_at slot t.cells)) r.turned ∙ by_cell (cell_at slot t.cells) (r.fewer slot)
   where

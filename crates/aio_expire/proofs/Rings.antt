@@ -29,7 +29,7 @@ but-none s (x ∷ xs) h =
 
 -- ---- Links
 
--- they lead to a slot from one of the list before it, or from where they begin
+-- they lead to a slot from the one before it in the list, or from where they begin
 pub prev-in : (nx pv : List ℕ) (n e f : ℕ) (xs : List ℕ) (s : ℕ) → Links nx pv n e f xs → 0 < count_in s xs → (get_or pv s 0 ≡ f) ⊎ (0 < count_in (get_or pv s 0) xs)
 prev-in nx pv n e f [] s l h = absurd (omega arith)
 prev-in nx pv n e f (x ∷ xs) s l h =
@@ -57,7 +57,7 @@ next-in nx pv n e f (x ∷ xs) s l h =
     first [] k = inl k.0
     first (y ∷ ys) k = inr (let c = count-same (get_or nx x 0) y ys (sym k.0) in omega (arith, c))
 
--- what differs at one place of each keeps links that don't touch it
+-- a change at one place of each list keeps links that don't touch it
 pub links-kept : (nx pv nx' pv' : List ℕ) (a z : ℕ) → ((j : ℕ) → (j ≡ a → ⊥) → get_or nx' j 0 ≡ get_or nx j 0) → ((j : ℕ) → (j ≡ z → ⊥) → get_or pv' j 0 ≡ get_or pv j 0)
     → (n e f : ℕ) (xs : List ℕ) → (f ≡ a → ⊥) → (e ≡ z → ⊥) → count_in a xs ≡ 0 → count_in z xs ≡ 0 → Links nx pv n e f xs → Links nx' pv' n e f xs
 links-kept nx pv nx' pv' a z sn sp n e f [] fa ez ca cz l = (sn f fa ∙ l.0, sp e ez ∙ l.1)

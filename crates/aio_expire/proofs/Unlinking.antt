@@ -4,7 +4,7 @@ use Rattle.std.specs.Prelude.{◌==◌}
 use Rattle.aio_expire.specs.Buckets.{count_in, but, Links}
 use Rattle.aio_expire.proofs.Rings.{count-other, count-same, but-none, prev-in, next-in, links-kept, same}
 
--- what follows the slot is linked to what stands before it
+-- what follows the slot is linked to what is before it
 pub links-but : (nx pv nx' pv' : List ℕ) (n e s : ℕ)
     → ((j : ℕ) → (j ≡ get_or pv s 0 → ⊥) → get_or nx' j 0 ≡ get_or nx j 0) → get_or nx' (get_or pv s 0) 0 ≡ get_or nx s 0
     → ((j : ℕ) → (j ≡ get_or nx s 0 → ⊥) → get_or pv' j 0 ≡ get_or pv j 0) → get_or pv' (get_or nx s 0) 0 ≡ get_or pv s 0

@@ -183,7 +183,7 @@ module _ (now : ℕ) (cells left : List (Option Deadline)) (pulled : List Deadli
       let g = tally-cells q cells in
       omega (arith, a, b, d, m, s, f, g))
 
--- no two of a slot, pulled or left
+-- no two entries of a slot, pulled or left
 pub pulled-apart : (cells : List (Option Deadline)) (s : SlotEntries) (pulled : List Deadline) → AreOwn cells → length s.cells ≡ length cells → ((p : Deadline → Bool) → tally p pulled + count_cells p s.cells ≡ count_cells p cells) → AreApart s pulled
 pulled-apart cells s pulled own n moved = record {
   once = λ slot. let m = moved (is_of slot) in let o = cells-one cells slot own in omega (arith, m, o);

@@ -14,7 +14,7 @@ inside_or_past b = elim (nat_lt b 513) as (λ t. nat_lt b 513 ≡ t → (b < 513
 pub rings-length : (n : ℕ) (nx : List ℕ) → length nx ≡ n + 513 → length (rings n nx) ≡ 513
 rings-length n nx l = length-map _ _ ∙ length-drop n nx ∙ omega (arith, l)
 
--- lists that stand in each bucket as said
+-- the lists are in the buckets as stated
 all_lists : (n : ℕ) (nx nx' : List ℕ) (f : ℕ → List ℕ → List ℕ) → length nx ≡ n + 513 → length nx' ≡ n + 513 → ((b : ℕ) → 513 ≤ b → f b [] ≡ [])
     → ((b : ℕ) → b < 513 → ring nx' n (n + b) ≡ f b (ring nx n (n + b))) → (b : ℕ) → list_at b (rings n nx') ≡ f b (list_at b (rings n nx))
 all_lists n nx nx' f l l' past h b = elim (inside_or_past b) [
@@ -45,7 +45,7 @@ module _ (n : ℕ) (nx pv : List ℕ) (slot : ℕ) (r : AreRings n nx pv) (is : 
       let u = unlinked n nx pv slot is.0 r is.1 here in
       (u.0, all_lists n nx (set nx (get_or pv slot 0) (get_or nx slot 0)) (λ b xs. but slot xs) r.next_length (length-set nx _ _ ∙ r.next_length) (λ b l. refl) u.1)
 
-  -- the same, with what stands before and behind it by other names
+  -- the same, with other names for what is before and after it
   pub rings-without : (a z : ℕ) → a ≡ get_or pv slot 0 → z ≡ get_or nx slot 0 → AreRings n (set nx a z) (set pv z a) × ((b : ℕ) → list_at b (rings n (set nx a z)) ≡ but slot (list_at b (rings n nx)))
   rings-without a z ea ez =
       subst (λ (i : ℕ). AreRings n (set nx i z) (set pv z i) × ((b : ℕ) → list_at b (rings n (set nx i z)) ≡ but slot (list_at b (rings n nx)))) (sym ea)
@@ -80,7 +80,7 @@ rings-linked n nx pv slot b r lb ls free =
     past : (c : ℕ) → 513 ≤ c → joined_at slot b c [] ≡ []
     past c h = let e : (c == b) ≡ false = grind (arith, nat_tests) in rw e refl
 
--- the same, with the first of the list by another name
+-- the same, with another name for the first of the list
 pub rings-with : (n : ℕ) (nx pv : List ℕ) (slot b z : ℕ) → z ≡ get_or nx (n + b) 0 → AreRings n nx pv → b < 513 → slot < n → ((c : ℕ) → count_in slot (list_at c (rings n nx)) ≡ 0)
     → AreRings n (set (set nx slot z) (n + b) slot) (set (set pv slot (n + b)) z slot) × ((c : ℕ) → list_at c (rings n (set (set nx slot z) (n + b) slot)) ≡ joined_at slot b c (list_at c (rings n nx)))
 rings-with n nx pv slot b z e r lb ls free =

@@ -23,22 +23,23 @@ abbrev pub but : ℕ → List ℕ → List ℕ
 but slot [] = []
 but slot (x ∷ xs) = cond (x == slot) (but slot xs) (x ∷ but slot xs)
 
--- the slot that stands after it
+-- the slot that follows it
 abbrev pub after : ℕ → List ℕ → Option ℕ
 after slot [] = None
 after slot (x ∷ xs) = cond (x == slot) (slice_get xs 0) (after slot xs)
 
--- the list with the slot put in front, in the bucket that it joins
+-- the list with the slot put at the front, in the bucket that it joins
 abbrev pub joined_at : ℕ → ℕ → ℕ → List ℕ → List ℕ
 joined_at slot bucket b xs = cond (b == bucket) (slot ∷ xs) xs
 
--- the slot stands in a list
+-- the slot is in a list
 abbrev pub IsListed : ℕ → List (List ℕ) → Type 0
 IsListed slot lists = (b : ℕ) × (b < 513) × (0 < count_in slot (list_at b lists))
 
 -- ---- How the links keep them
 
--- The slots that the links lead over from one on, at most as many as the first number says. A number that is no slot ends them.
+-- The slots that the links lead over from one on, at most as many as the first number says. A number that isn't a slot
+-- ends them.
 abbrev pub walk : ℕ → List ℕ → ℕ → ℕ → List ℕ
 walk zero next slots i = []
 walk (suc k) next slots i = cond (nat_lt i slots) (i ∷ walk k next slots (slice_index next i)) []
@@ -52,7 +53,7 @@ abbrev pub Links : (next prev : List ℕ) (slots head from : ℕ) → List ℕ �
 Links next prev slots head from [] = (slice_index next from ≡ head) × (slice_index prev head ≡ from)
 Links next prev slots head from (x ∷ xs) = (slice_index next from ≡ x) × (x < slots) × (slice_index prev x ≡ from) × Links next prev slots head x xs
 
--- Behind the slots stand 513 heads, each with a ring of its own. No slot stands in two places.
+-- After the slots there are 513 heads, each with a ring of its own. No slot is in two places.
 pub record AreRings (slots : ℕ) (next prev : List ℕ) : Type 0 where
   pub next_length : length next ≡ slots + 513
   pub prev_length : length prev ≡ slots + 513

@@ -1,4 +1,4 @@
--- The entry of each slot, and the bucket of the wheel in which it stands.
+-- The entry of each slot, and the bucket of the wheel that it is in.
 use Rattle.std.specs.Prelude.{◌&&◌, max, ◌⊎◌, length, ◌≡◌, ℕ, ◌+◌, ◌%◌, ◌/◌, ◌<◌, ◌≤◌, Bool, ◌==◌, nat_le, cond, List, [], ◌∷◌, Option, None, Some, slice_index_or}
 use Rattle.aio_expire.specs.declared.deadlines.Deadline.{Deadline}
 use Rattle.aio_expire.specs.Schedule.{put_in, tally, is_of}
@@ -12,7 +12,7 @@ pub record SlotEntries : Type 0 where
 abbrev pub cell_at : ℕ → List (Option Deadline) → Option Deadline
 cell_at slot cells = slice_index_or cells slot None
 
--- Where an entry of this moment stands when the wheel was turned to `turned`: with the overdue ones in the bucket of
+-- The bucket of an entry of this moment when the wheel is turned to `turned`: with the overdue ones in the bucket of
 -- that moment; in the bucket of its tick, of its 256 ticks where only the 65,536 ticks agree, or else in the last.
 abbrev pub bucket_of : ℕ → ℕ → ℕ
 bucket_of turned at =
@@ -20,16 +20,16 @@ bucket_of turned at =
     (cond (at / 256 == turned / 256) (at % 256)
     (cond (at / 65536 == turned / 65536) (256 + (at / 256) % 256) 512))
 
--- 1 where the entry belongs into the bucket
+-- 1 where the entry belongs in the bucket
 abbrev pub belongs : ℕ → ℕ → Option Deadline → ℕ
 belongs turned bucket None = 0
 belongs turned bucket (Some e) = one_if (bucket_of turned e.at == bucket)
 
--- an entry stands at its own slot
+-- an entry is at its own slot
 abbrev pub AreOwn : List (Option Deadline) → Type 0
 AreOwn cells = (slot : ℕ) (e : Deadline) → cell_at slot cells ≡ Some e → e.op.slot ≡ slot
 
--- each list has the slots of the entries that belong into its bucket, each once, and no others
+-- each list has the slots of the entries that belong in its bucket, each once, and no others
 abbrev pub AreFiled : ℕ → List (Option Deadline) → List (List ℕ) → Type 0
 AreFiled turned cells lists = (bucket slot : ℕ) → count_in slot (list_at bucket lists) ≡ belongs turned bucket (cell_at slot cells)
 
@@ -45,7 +45,7 @@ in_order [] = []
 in_order (None ∷ cs) = in_order cs
 in_order (Some e ∷ cs) = put_in e (in_order cs)
 
--- The lists of the wheel: each has the slots of the entries that belong into its bucket, each once, and no others.
+-- The lists of the wheel: each has the slots of the entries that belong in its bucket, each once, and no others.
 pub record IsWheelOf (turned : ℕ) (entries : List Deadline) (lists : List (List ℕ)) : Type 0 where
   pub count : length lists ≡ 513
   pub each : (bucket slot : ℕ) → count_in slot (list_at bucket lists) ≡ tally (λ d. is_of slot d && bucket_of turned d.at == bucket) entries
@@ -67,15 +67,15 @@ AreEmpty low high s = (bucket slot : ℕ) → low ≤ bucket → bucket < high �
 abbrev pub IsOutside : (low high low' high' bucket : ℕ) → Type 0
 IsOutside low high low' high' bucket = ((bucket < low) ⊎ (high ≤ bucket)) × ((bucket < low') ⊎ (high' ≤ bucket))
 
--- what stands elsewhere is later than `now`, and stays where it is when the wheel is turned to it
+-- what is elsewhere is later than `now`, and stays there when the wheel is turned to it
 abbrev pub StaysAt : (turned now at : ℕ) → Type 0
 StaysAt turned now at = (now < at) × (bucket_of (max turned now) at ≡ bucket_of turned at)
 
--- each entry that is left is later, and stays where it is
+-- each entry that is left is later than `now`, and stays where it is
 abbrev pub AllStay : (now : ℕ) → SlotEntries → Type 0
 AllStay now s = (slot : ℕ) (e : Deadline) → cell_at slot s.cells ≡ Some e → StaysAt s.turned now e.at
 
--- no slot has two entries, in the list or at the slots, and none has a slot that is none
+-- no slot has two entries, in the list or at the slots, and none has a slot that doesn't exist
 pub record AreApart (s : SlotEntries) (es : List Deadline) : Type 0 where
   pub once : (slot : ℕ) → tally (is_of slot) es + count_cells (is_of slot) s.cells ≤ 1
   pub inside : (slot : ℕ) → length s.cells ≤ slot → tally (is_of slot) es ≡ 0

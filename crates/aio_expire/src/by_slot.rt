@@ -1,4 +1,4 @@
-//! The entry of each slot, and the wheel in whose lists the slots stand.
+//! The entry of each slot, and the wheel whose lists have the slots.
 ghost use Rattle.std.specs.Prelude.{ℕ, ◌≡◌, ◌+◌, ◌<◌, ◌≤◌, [], None, Some, length, replicate, slice_set, IfOk};
 ghost use Rattle.aio_expire.specs.Buckets.{list_at, count_in};
 ghost use Rattle.aio_expire.specs.SlotEntries.{cell_at, bucket_of, belongs, AreOwn, AreFiled};
@@ -10,7 +10,8 @@ use sp_base::{NoMemory, Tick};
 use std::alloc::Global;
 use std::marker::Model;
 
-// The entry of each slot, if it has one. Each stands in the list of the wheel that its moment and `turned` say.
+// The entry of each slot, if it has one. Each slot is in the list of the wheel that is given by its moment and
+// `turned`.
 #[derive(Debug, Drop)]
 pub(crate) struct BySlot {
     cells: Vec<Option<Deadline>>,
@@ -41,7 +42,7 @@ fn no_entries(alloc: Global, slots: u32) -> Result<Vec<Option<Deadline>>, NoMemo
     Ok(cells)
 }
 
-// The list that an entry of this moment stands in.
+// The list for an entry of this moment.
 fn bucket_of(turned: Tick, at: Tick) -> u32
     ensures bucket { result ≡ bucket_of turned at }
     ensures bound { result < 513 }
@@ -87,7 +88,7 @@ impl BySlot {
         &self.wheel
     }
 
-    // Gives the slot its entry.
+    // Stores the slot's entry.
     pub(crate) fn put(&mut self, entry: Deadline)
         requires slot { entry.op.slot < length self.old.cells }
         requires free { cell_at entry.op.slot self.old.cells ≡ None }
@@ -101,7 +102,7 @@ impl BySlot {
         self.cells[slot as usize] = cell;
     }
 
-    // Takes the slot's entry, if it has one.
+    // Takes out the slot's entry, if it has one.
     pub(crate) fn take(&mut self, slot: u32) -> Option<Deadline>
         ensures entry { result ≡ cell_at slot self.old.cells }
         ensures rest { self.new ≡ record self.old { cells = slice_set self.old.cells slot None } }
@@ -116,7 +117,7 @@ impl BySlot {
         Some(entry)
     }
 
-    // A slot whose entry stands in the list, if there is one.
+    // A slot whose entry is in the list, if there is one.
     pub(crate) fn first(&self, bucket: u32) -> Option<u32>
         requires { bucket < 513 }
         ensures some { (slot : ℕ) → result ≡ Some slot → 0 < belongs self.now.turned bucket (cell_at slot self.now.cells) }

@@ -8,7 +8,7 @@ use crate::by_slot::BySlot;
 use crate::deadlines::Deadline;
 use sp_base::Tick;
 
-// The lists that the wheel passes as it turns: those of ticks, and those of 256 ticks and what is farther.
+// The lists that the wheel passes as it turns: those of ticks, and those of 256 ticks and what is later.
 #[derive(Clone, Copy, Debug)]
 struct Passed {
     tick: u32,
@@ -17,7 +17,8 @@ struct Passed {
     span_end: u32,
 }
 
-// What stands in no other list is later than `now`, and stays where it is when the wheel has turned.
+// The lists that the wheel passes. What is in no other list is later than `now`, and stays where it is when the wheel
+// has turned.
 fn lists_passed(turned: Tick, now: Tick) -> Passed
     ensures bound { (result.tick_end ≤ 513) × (result.span_end ≤ 513) }
     ensures stays { (at : ℕ) → IsOutside result.tick result.tick_end result.span result.span_end (bucket_of turned at) → StaysAt turned now at }
@@ -55,7 +56,7 @@ fn lists_passed(turned: Tick, now: Tick) -> Passed
     }
 }
 
-// Takes the entries of one list out.
+// Takes out the entries of one list.
 fn pull_list(by_slot: &mut BySlot, bucket: u32, pulled: &mut Vec<Deadline>)
     requires bucket { bucket < 513 }
     requires room { length pulled.old.items + count_cells (λ _. true) by_slot.old.cells ≤ vec_capacity pulled.old }
@@ -71,7 +72,7 @@ fn pull_list(by_slot: &mut BySlot, bucket: u32, pulled: &mut Vec<Deadline>)
     }
 }
 
-// Takes the entries of some lists out.
+// Takes out the entries of some lists.
 fn pull_lists(by_slot: &mut BySlot, low: u32, high: u32, pulled: &mut Vec<Deadline>)
     requires high { high ≤ 513 }
     requires room { length pulled.old.items + count_cells (λ _. true) by_slot.old.cells ≤ vec_capacity pulled.old }
@@ -84,7 +85,7 @@ fn pull_lists(by_slot: &mut BySlot, low: u32, high: u32, pulled: &mut Vec<Deadli
     }
 }
 
-// Takes out what is due at `now`, and what will stand in another list once the wheel is turned to it.
+// Takes out what is due at `now`, and what will be in another list once the wheel is turned to it.
 pub(crate) fn pull(by_slot: &mut BySlot, now: Tick, pulled: &mut Vec<Deadline>)
     requires room { length pulled.old.items + count_cells (λ _. true) by_slot.old.cells ≤ vec_capacity pulled.old }
     ensures pulled { IsPulled by_slot.old pulled.old.items by_slot.new pulled.new.items }
@@ -117,7 +118,7 @@ pub(crate) fn put_back(by_slot: &mut BySlot, pulled: &mut Vec<Deadline>, count: 
     ensures own { AreOwn by_slot.new.cells }
     ensures room { vec_capacity pulled.new ≡ vec_capacity pulled.old }
 {
-    // What the entries' slots are is known of them.
+    // Brings into the proof what is known of the entries' slots.
     let _turned = by_slot.turned();
     while pulled.len() > count {
         let Some(entry) = pulled.pop() else {

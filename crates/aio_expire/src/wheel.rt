@@ -6,13 +6,13 @@ use sp_base::NoMemory;
 use std::alloc::Global;
 use std::marker::Model;
 
-/// How many lists a wheel has.
+/// The number of lists of a wheel.
 pub const BUCKETS: u32 = 513;
 
-/// Slots in 513 lists, each slot in one list at most. It is seen as these lists, numbered from 0.
+/// Slots in 513 lists, each slot in at most one list. Contracts see it as these lists, numbered from 0.
 #[derive(Debug, Drop)]
 pub struct Wheel {
-    // Slots are the numbers below this. Behind them stand the heads of the lists.
+    // Slots are the numbers below this. The heads of the lists are the numbers after them.
     slots: u32,
     // By slot or head: the slot that follows in its list, or the list's head.
     next: Vec<u32>,
@@ -64,7 +64,7 @@ impl Wheel {
         self.slot(self.next[(self.slots + bucket) as usize])
     }
 
-    /// The slot that follows a slot in its list. `None` exactly where it is the last. The slot stands in a list.
+    /// The slot that follows `slot` in its list. `None` exactly where it is the last. The slot must be in a list.
     pub fn next(&self, slot: u32) -> Option<u32>
         requires { IsListed slot self.now.lists }
         ensures { (b : ℕ) → 0 < count_in slot (list_at b self.now.lists) → result ≡ after slot (list_at b self.now.lists) }
@@ -72,7 +72,7 @@ impl Wheel {
         self.slot(self.next[slot as usize])
     }
 
-    // A number, where it is a slot.
+    // The number, if it is a slot.
     fn slot(&self, number: u32) -> Option<u32>
         ensures { result ≡ (if nat_lt number self.now.slots then Some number else None) }
     {
@@ -83,7 +83,7 @@ impl Wheel {
         }
     }
 
-    // Puts a slot that stands in no list in front of one.
+    // Puts a slot that is in no list at the front of one.
     pub(crate) fn link(&mut self, slot: u32, bucket: u32)
         requires slot { slot < self.old.slots }
         requires bucket { bucket < 513 }

@@ -1,4 +1,4 @@
--- One more new seat, and one less.
+-- One more new seat, and one fewer.
 use Rattle.std.proofs.Common.{◌≡◌, ℕ, ◌+◌, List, [], ◌∷◌, ◌++◌, length, ap, ◌∙◌, arith}
 use Rattle.atomic_table.specs.Seated.{TableId}
 use Rattle.aio_word.specs.Sight.{Sight}

@@ -52,7 +52,7 @@ held_new seat made views w role number held k small = dite (ℕ_discrete k (made
     (λ e. (w, ap (λ (z : ℕ). get_elem? (views ++ w ∷ []) z) (put₁_here seat (made + 1) (length views) k e) ∙ at_last views w (length views) refl, inr (role, number ∙ sym e, omega arith)))
     (λ other. let h = held k (omega arith) in (h.0, ap (λ (z : ℕ). get_elem? (views ++ w ∷ []) z) (put₁_else seat (made + 1) (length views) k other) ∙ at_longer views (w ∷ []) (seat k) h.0 h.1, h.2))
 
--- what the core's view had, it has with a caller's wins beside it
+-- what the core's view had, it still has after taking in a caller's wins
 pub absorbed_holds : (v w : WordsView) (k : ℕ) → IsHolder k v.role v.number v.kept → IsHolder k v.role v.number (absorbed v w).kept
 absorbed_holds v w k h = ⊎_elim
     (λ t. inl (t.0, ⊎_elim (λ z. inl z) (λ s. inr (s.0, Stands-more v.kept _ _ s.1)) t.1))

@@ -77,7 +77,7 @@ module _ (n : ℕ) (s : St) (r : Ruled n s) where
   fate_lawful : (x : ShownOperation) → r.fate x.slot x.generation ≡ (x.phase, x.by) → Lawful x.phase x.by
   fate_lawful x is = subst (λ (f : Fate). Lawful f.0 f.1) is (r.lawful x.slot x.generation)
 
-  -- an operation that stands in a list of ends stands there as it ended
+  -- an operation in a list of ends is there with its own end
   stands_as : (P : ShownOperation → Type 0) (es : List ShownOperation) (x : ShownOperation) → ((y : ShownOperation) → P y → r.fate y.slot y.generation ≡ (y.phase, y.by)) → Each P es → r.fate x.slot x.generation ≡ (x.phase, x.by) → 0 < times x.slot x.generation es → Stands x es
   stands_as P es x f all is there = let t = some_named x.slot x.generation es there in subst (λ (z : ShownOperation). Stands z es) (one_entry r.fate t.0 x (f t.0 (Each-at P es t.0 t.1 all)) is t.2 t.3) t.1
 
@@ -99,7 +99,7 @@ module _ (n : ℕ) (s : St) (r : Ruled n s) where
   reads_of j v Note is other c = c
   reads_of j v Spent is other c = absurd (other refl)
 
-  -- an operation that is open stands in no ends
+  -- an operation that is open is in no ends
   open_ends_of : (c : WordsView) → HasCore s.views c → (i g : ℕ) → is_decided (r.fate i g).0 ≡ false → times i g c.ends ≡ 0
   open_ends_of c h i g o = dite (ℕ_discrete (times i g c.ends) 0) (λ z. z)
       (λ there. let t = some_named i g c.ends (omega arith) in

@@ -1,4 +1,4 @@
--- What a step tells of what it found.
+-- What a step shows about what it found.
 use Rattle.std.proofs.Common.{◌≡◌, ◌≢◌, ℕ, ◌<◌, ◌≤◌, true, false, true≢false, List, refl, sym, ap, ◌∙◌, subst, arith}
 use mathlib.Core.Logic.{dite}
 use native.Mathlib.Decide.{ℕ_discrete}
@@ -12,7 +12,7 @@ use Rattle.aio_word.specs.Rule.{Fate, Lawful, owns, IsEnd, IsRead, IsWins, IsOwn
 use Rattle.aio_word.specs.Results.{IsBegun, Agrees, AgreesEnded, IsTold, IsFound, IsSeen}
 use Rattle.aio_word.proofs.Entries.{Each-map, Each-at, some_named, owned}
 
--- two entries of one operation that both say its fate are one
+-- two entries of one operation that both give its fate are equal
 pub one_entry : (fate : ℕ → ℕ → Fate) (d e : ShownOperation) → fate d.slot d.generation ≡ (d.phase, d.by) → fate e.slot e.generation ≡ (e.phase, e.by) → d.slot ≡ e.slot → d.generation ≡ e.generation → d ≡ e
 one_entry fate d e hd he s g =
     let same : fate d.slot d.generation ≡ fate e.slot e.generation = λ k. fate (s k) (g k) in
@@ -71,7 +71,7 @@ call_end SurveyOver k h a b = absurd (true≢false (sym h))
 call_end Cancelled k h a b = (refl, (a, b), λ e. cc)
 call_end Expired k h a b = (refl, (a, b), λ e. cc)
 
--- an operation that is pending stands in no ends
+-- an operation that is pending is in no ends
 pub unended : (v : WordsView) (e : ShownOperation) → is_decided e.phase ≡ false → IsFound v e → times e.slot e.generation v.ends ≡ 0
 unended v e still_open f = dite (ℕ_discrete (times e.slot e.generation v.ends) 0) (λ z. z)
     (λ some. let s = some_named e.slot e.generation v.ends (omega arith) in

@@ -1,4 +1,4 @@
--- The rule gives that each operation which has ended was won by one.
+-- The rule gives that each operation which has ended was won once.
 use Rattle.std.proofs.Common.{◌≡◌, ℕ, ◌<◌, List, sym, subst, ap, ◌∙◌, ⊎_elim, inr, arith}
 use mathlib.Core.Logic.{dite}
 use native.Mathlib.Decide.{ℕ_discrete}

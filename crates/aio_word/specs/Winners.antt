@@ -16,15 +16,15 @@ IsJoined v k wins = Stands (let x : JoinedWins = record { number = k; wins = win
 abbrev pub AllSeen : WordsView → Type 0
 AllSeen v = (i : ℕ) → i < length v.generations → HasSeen v i
 
--- each operation that has ended was won by one
+-- each operation that has ended was won once
 pub record HasOneWinner (v : WordsView) : Type 0 where
   -- the ends that name a joined caller are those of its wins that have ended
   pub named : (k : ℕ) (wins : List ShownOperation) → IsJoined v k wins → (e : ShownOperation) → Stands e v.ends → (e.by ≡ k) ↔ Stands e wins
-  -- a win whose operation has ended stands in the ends as it is
+  -- a win whose operation has ended is in the ends unchanged
   pub ended : (k : ℕ) (wins : List ShownOperation) → IsJoined v k wins → (e d : ShownOperation) → Stands e v.ends → Stands d wins → IsSame e d → d ≡ e
-  -- no operation stands in the wins of two callers
+  -- no operation is in the wins of two callers
   pub apart : (k l : ℕ) (wins others : List ShownOperation) → IsJoined v k wins → IsJoined v l others → (e d : ShownOperation) → Stands e wins → Stands d others → IsSame e d → k ≡ l
-  -- no operation that the core ended stands in any wins
+  -- no operation that the core ended is in any wins
   pub own : (k : ℕ) (wins : List ShownOperation) → IsJoined v k wins → (e d : ShownOperation) → Stands e v.ends → e.by ≡ 0 → Stands d wins → IsSame e d → ⊥
   -- once the core has seen each slot's end, each win is an end
   pub all : AllSeen v → (k : ℕ) (wins : List ShownOperation) → IsJoined v k wins → (e : ShownOperation) → Stands e wins → Stands e v.ends

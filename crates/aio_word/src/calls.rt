@@ -1,5 +1,5 @@
-//! The calls, as an operation lives: it begins, the core and the callers race to end it, and the core finds how it
-//! ended. Then the seats are joined.
+//! The calls, in the order of an operation's life: it begins, the core and the callers race to end it, and the core
+//! finds how it ended. Then the seats are joined.
 ghost use Rattle.std.specs.Prelude.{◌≡◌, ◌<◌, true, IfOk, MatchResult};
 ghost use Rattle.aio_word.specs.declared.phase.Phase.TheVariants.{Cancelled, Expired};
 ghost use Rattle.aio_word.specs.Word.{is_core_end, is_call_end, is_decided};
@@ -23,8 +23,8 @@ use std::alloc::Global;
 use std::marker::Model;
 use std::sync::Arc;
 
-/// The words of some slots. Several values can be of the same words, and each seat of them fits each value. They may
-/// be used by several threads at once (nng_aio(5)).
+/// The words of some slots. Several values can share the same words, and each seat of the words fits each value.
+/// Several threads may use them at once (nng_aio(5)).
 #[derive(Drop)]
 pub struct Words {
     // The words, by slot, under the rule.
@@ -71,7 +71,7 @@ impl Words {
         ensures name { IfOk result (λ op. IsName core.new.view self.now.slots op) }
         ensures rule { IfOk result (λ _. IsKnownCore self.now.slots core.new.view) }
     {
-        // The model's facts are known from here on.
+        // Brings the invariant of the field into the proof.
         let _slots = &self.slots;
         let at = slot as usize;
         let last = core.generations[at];
@@ -85,13 +85,13 @@ impl Words {
         Ok(OpName { slot, generation })
     }
 
-    /// The name of the slot's next operation, as `begin` will give it. `Worn` where `begin` returns it. No step.
+    /// The name of the slot's next operation, as `begin` will give it. `Worn` where `begin` returns it. Takes no step.
     pub fn next(&self, core: &CoreSeat, slot: u32) -> Result<OpName, Worn>
         requires own { core.now.words ≡ self.now.id }
         requires slot { slot < self.now.slots }
         ensures { MatchResult result (λ op. (op.slot ≡ slot) × IsNextName core.now.view op) (λ _. IsWorn core.now.view slot) }
     {
-        // The model's facts are known from here on.
+        // Brings the invariant of the field into the proof.
         let _slots = &self.slots;
         let last = core.generations[slot as usize];
         if LAST <= last {
@@ -103,7 +103,7 @@ impl Words {
         })
     }
 
-    /// How the core's operation stands. Where it has ended, the core notes the end. Never `Idle`.
+    /// The phase of the core's operation. Where it has ended, the core records the end. Never `Idle`.
     pub fn look(&self, core: &mut CoreSeat, op: OpName) -> Look
         requires own { core.old.words ≡ self.now.id }
         requires name { IsName core.old.view self.now.slots op }
@@ -132,7 +132,7 @@ impl Words {
         ensures seen { HasSeen core.new.view op.slot }
         ensures rule { IsKnownCore self.now.slots core.new.view }
     {
-        // The model's facts are known from here on.
+        // Brings the invariant of the field into the proof.
         let _generations = &core.generations;
         let pending = word_with(op.generation, Phase::Pending, 0);
         let ended = word_with(op.generation, to, 0);
@@ -169,8 +169,8 @@ impl Words {
         self.race(seat, op, Phase::Expired)
     }
 
-    // Ends the operation as `to`, unless it has ended. A name that no word can show is looked up all the same, so that
-    // each result but at a slot out of range rests on a step.
+    // Ends the operation as `to`, unless it has ended. Takes a step also for a name that no word can show, so that each
+    // result except for a slot out of range rests on a step.
     fn race(&self, seat: &mut CallSeat, op: OpName, to: Phase) -> Raced
         requires own { seat.old.words ≡ self.now.id }
         requires end { is_call_end to ≡ true }
@@ -205,7 +205,7 @@ impl Words {
         }
     }
 
-    /// How the operation stands, for a caller. One step, or none where there is no such slot.
+    /// The phase of the operation, for a caller. One step, or no step where there is no such slot.
     pub fn poll(&self, seat: &mut CallSeat, op: OpName) -> Polled
         requires own { seat.old.words ≡ self.now.id }
         ensures own { IsSameSeat seat.old seat.new }
@@ -231,8 +231,8 @@ impl Words {
         }
     }
 
-    /// How the core's operation stands, with what the caller's seat has read: where the seat has read an end of it,
-    /// that end is returned. The seat stays as it is.
+    /// The phase of the core's operation, together with what the caller's seat has read: where the seat has read its
+    /// end, that end is returned. The seat is unchanged.
     pub fn found(&self, core: &mut CoreSeat, seat: &mut CallSeat, op: OpName) -> Look
         requires core { core.old.words ≡ self.now.id }
         requires own { seat.old.words ≡ self.now.id }
@@ -249,8 +249,8 @@ impl Words {
         self.look(core, op)
     }
 
-    /// Takes in what a caller's seat has won and read. The seat ends. Of the callers that have joined, the core's ends
-    /// that name one are exactly those of its wins that have ended, and no operation was won twice.
+    /// Takes in what a caller's seat has won and read. Consumes the seat. Of the callers that have joined, the core's
+    /// ends that name one are exactly those of its wins that have ended, and no operation was won twice.
     pub fn join(&self, core: &mut CoreSeat, seat: CallSeat)
         requires core { core.old.words ≡ self.now.id }
         requires own { seat.words ≡ self.now.id }
@@ -264,7 +264,7 @@ impl Words {
         self.learn(core);
     }
 
-    // A step that changes nothing, and tells the core the rule.
+    // A step that changes nothing, and shows the rule to the core.
     pub(crate) fn learn(&self, core: &mut CoreSeat)
         requires core { core.old.words ≡ self.now.id }
         ensures same { core.new ≡ core.old }

@@ -1,4 +1,4 @@
-//! The words are made here.
+//! How words are made.
 ghost use Rattle.std.specs.Prelude.{◌≡◌, ℕ, ◌+◌, ◌<◌, ◌≤◌, length, replicate, IfOk};
 ghost use Rattle.aio_word.specs.Views.{one_more, new_caller, new_core};
 ghost use Rattle.aio_word.specs.Fresh.{AreFresh};

@@ -1,6 +1,6 @@
 //! The phases of an operation, from its begin to its end.
 
-/// How an operation stands. It is numbered so in a word, from 0 (nng_aio_result(3)).
+/// The phase of an operation, numbered from 0 as in a word (nng_aio_result(3)).
 #[derive(Clone, Copy, PartialEq, Eq, Debug)]
 pub enum Phase {
     /// The slot had no operation yet.

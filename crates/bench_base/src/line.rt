@@ -2,17 +2,17 @@
 use crate::number::{Number, count_of, number_of};
 
 /// A line that is read word by word, at one size. A word that is missing, or isn't what is asked for, makes the line
-/// wrong, and 0 or nothing stands in its place.
+/// wrong, and reads as 0 or nothing.
 #[derive(Clone, Copy)]
 pub struct Line<'a> {
     size: u32,
-    /// What was not read; none where all was.
+    /// The part that was not read, or `None` where all was read.
     rest: Option<&'a str>,
     is_wrong: bool,
 }
 
 impl<'a> Line<'a> {
-    /// A line of which nothing was read.
+    /// A line from its start.
     pub fn new(size: u32, text: &'a str) -> Line<'a> {
         Line {
             size,
@@ -55,7 +55,7 @@ impl<'a> Line<'a> {
         number_of(self.size, self.word())
     }
 
-    /// What was not read, to its end.
+    /// The rest of the line.
     pub fn rest(&mut self) -> &'a str {
         match self.rest {
             Some(text) => {
@@ -66,7 +66,7 @@ impl<'a> Line<'a> {
         }
     }
 
-    /// Every word was read, and each was what was asked for.
+    /// Returns whether every word was read, and each was what was asked for.
     pub fn is_read(&self) -> bool {
         !self.is_wrong && self.rest.is_none()
     }

@@ -1,17 +1,17 @@
 //! Numbers of a text.
 
-/// A number that may be another one each time.
+/// A number that may change from one repetition to the next.
 #[derive(Clone, Copy)]
 pub struct Number {
-    /// What it is at first.
+    /// The first value.
     from: u32,
-    /// By how much it grows or falls each time.
+    /// The change at each repetition.
     step: u32,
     falls: bool,
 }
 
 impl Number {
-    /// What it is after so many times.
+    /// The value after `times` repetitions.
     pub fn after(self, times: u32) -> u32 {
         let change = self.step.saturating_mul(times);
         if self.falls {
@@ -46,7 +46,7 @@ fn term(size: u32, word: &str) -> Option<u32> {
     }
 }
 
-/// What the word stands for at this size, if it is a number.
+/// The value of the word at this size, if it is a number.
 pub fn count_of(size: u32, word: &str) -> Option<u32> {
     if let Some((left, right)) = word.split_once('+') {
         return Some(term(size, left)?.saturating_add(term(size, right)?));
@@ -57,7 +57,7 @@ pub fn count_of(size: u32, word: &str) -> Option<u32> {
     term(size, word)
 }
 
-// The number that grows by the step, of which this stands behind `i`.
+// The number that grows by the step, with this text after `i`.
 fn growing(size: u32, step: &str, more: &str) -> Option<Number> {
     let step = if step.is_empty() {
         1
@@ -80,7 +80,7 @@ fn growing(size: u32, step: &str, more: &str) -> Option<Number> {
     })
 }
 
-// The number that falls by 1 from this one; nothing stands behind its `i`.
+// The number that falls by 1 from this one; nothing may follow its `i`.
 fn falling(size: u32, from: &str, behind: &str) -> Option<Number> {
     if !behind.is_empty() {
         return None;
@@ -92,7 +92,7 @@ fn falling(size: u32, from: &str, behind: &str) -> Option<Number> {
     })
 }
 
-/// The number that the word stands for at this size.
+/// The number of the word at this size.
 pub fn number_of(size: u32, word: &str) -> Option<Number> {
     match word.split_once('i') {
         None => Some(Number {

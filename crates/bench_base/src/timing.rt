@@ -2,12 +2,12 @@
 use std::io::Eprint;
 use std::time::{Clock, Instant};
 
-/// The moment, or none where the clock can't say.
+/// The current time, or `None` where the clock can't tell it.
 pub fn now<R: Clock>(rt: &R) -> Option<Instant> {
     Instant::now(rt).ok()
 }
 
-/// The nanoseconds since then.
+/// The nanoseconds since `start`.
 pub fn since<R: Clock>(rt: &R, start: Option<Instant>) -> u128 {
     let Some(start) = start else {
         return 0;
@@ -18,13 +18,13 @@ pub fn since<R: Clock>(rt: &R, start: Option<Instant>) -> u128 {
     }
 }
 
-/// Says what each of so many cost, which took so many nanoseconds together.
+/// Writes the cost of each of `count` units, which took `nanos` nanoseconds together.
 pub fn report<R: Eprint>(rt: &R, name: &str, size: u32, nanos: u128, count: u32) {
     let each = nanos / u128::from(count.max(1));
     let _ = eprintln!(rt; "{name} at {size}: {each} ns");
 }
 
-/// Times calls of two kinds: those of one while those of the other rest.
+/// Times calls of two kinds: those of one kind while the other is paused.
 #[derive(Clone, Copy)]
 pub struct Watch {
     start: Option<Instant>,
@@ -34,7 +34,7 @@ pub struct Watch {
 }
 
 impl Watch {
-    /// One that has timed nothing.
+    /// A watch that has timed nothing.
     pub fn new() -> Watch {
         Watch {
             start: None,
@@ -49,17 +49,17 @@ impl Watch {
         self.others = 0;
     }
 
-    /// From now on calls are timed.
+    /// Starts timing.
     pub fn go_on<R: Clock>(&mut self, rt: &R) {
         self.start = now(rt);
     }
 
-    /// Ends what is timed.
+    /// Stops timing.
     pub fn end<R: Clock>(&mut self, rt: &R) {
         self.nanos = self.nanos.saturating_add(since(rt, self.start));
     }
 
-    /// From now on calls of the other kind are timed.
+    /// Goes over to timing calls of the other kind.
     pub fn switch<R: Clock>(&mut self, rt: &R) {
         self.end(rt);
         let nanos = self.nanos;

@@ -1,5 +1,5 @@
 //! How fast nngcat's run goes over a link in memory: a pull that prints, and a push that sends; and how fast bodies are
-//! printed. What is printed is the same at any speed: what each run came to. The rates go to standard error.
+//! printed. What is printed is the same at any speed: the result of each run. The rates go to standard error.
 #![tactic(auto)]
 
 mod texts;
@@ -14,13 +14,13 @@ use std::sync::Wait;
 use std::thread::Threads;
 use std::time::Clock;
 
-/// How many turns a run has at most.
+/// The greatest number of turns of a run.
 const TURNS: u64 = 1_000_000;
 
 /// The option before the body that a push sends.
 const DATA: &str = "--data=";
 
-/// What a run came to.
+/// The result of a run.
 #[derive(Clone, Copy)]
 struct MeasuredRun {
     status: Status,
@@ -29,7 +29,7 @@ struct MeasuredRun {
     left: u64,
 }
 
-// Bytes from the start on: the greeting of a peer with this number, and so many frames with this body.
+// The bytes of a link from its start: the greeting of a peer with this number, and `count` frames with this body.
 fn text_of(alloc: Global, number: u8, body: &[u8], count: u32) -> Result<Vec<u8>, NoMemory> {
     let mut text = Vec::from_slice(alloc, &[0, b'S', b'P', 0, 0, number, 0, 0])?;
     for _ in 0..count {
@@ -39,7 +39,7 @@ fn text_of(alloc: Global, number: u8, body: &[u8], count: u32) -> Result<Vec<u8>
     Ok(text)
 }
 
-// A net over which one link comes, which brings this text.
+// A net with one incoming link, which brings this text.
 fn net_of(alloc: Global, text: Vec<u8>) -> Result<MemNet, NoMemory> {
     let mut script = Vec::new(alloc);
     script.push(LinkStep::Bytes(Bytes::from_vec(text)))?;
@@ -82,8 +82,8 @@ fn words_of(alloc: Global, line: &str) -> Result<Vec<String>, NoMemory> {
     Ok(words)
 }
 
-// A role with this option sends or prints so many messages, over one link with these frames of a peer with this number.
-// Says what the run came to, and how fast it was. Whether it could.
+// Runs a role with this option that sends or prints `count` messages, over one link with `frames` frames of a peer with
+// this number. Prints the result of the run and its speed, and returns whether it could.
 fn measure<R: AllocGlobal + Clock + Eprint + Print + Sync + Threads + Wait>(
     rt: &R,
     role: &str,
@@ -112,7 +112,7 @@ fn measure<R: AllocGlobal + Clock + Eprint + Print + Sync + Threads + Wait>(
     Ok(printed.is_ok() && eprintln!(rt; "{role} {size}: {rate} messages/s, {turns} turns").is_ok())
 }
 
-// The option for a body of so many bytes.
+// The option for a body of `size` bytes.
 fn data_of(alloc: Global, size: u32) -> Result<String, NoMemory> {
     let mut option = String::from_str(alloc, DATA)?;
     for _ in 0..size {
@@ -121,7 +121,7 @@ fn data_of(alloc: Global, size: u32) -> Result<String, NoMemory> {
     Ok(option)
 }
 
-// A pull that prints so many messages of this size, raw, and a push that sends them. Whether it could.
+// Measures a pull that prints `count` messages of this size, raw, and a push that sends them. Returns whether it could.
 fn both<R: AllocGlobal + Clock + Eprint + Print + Sync + Threads + Wait>(
     rt: &R,
     size: u32,
@@ -144,7 +144,7 @@ fn both<R: AllocGlobal + Clock + Eprint + Print + Sync + Threads + Wait>(
     Ok(pulled && measure(rt, "push", &data, size, count, 0x51, &[], 0)?)
 }
 
-// The runs, and then the prints. Whether it could.
+// Measures the runs, and then the prints. Returns whether it could.
 fn all<R: AllocGlobal + Clock + Eprint + Print + Sync + Threads + Wait>(
     rt: &R,
 ) -> Result<bool, NoMemory> {

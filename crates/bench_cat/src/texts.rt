@@ -1,4 +1,4 @@
-//! How fast bodies are printed in each format, beside a plain loop over their bytes.
+//! How fast bodies are printed in each format, compared with a plain loop over their bytes.
 
 use bench_base::timing::{now, since};
 use cat_text::{Format, print};
@@ -10,7 +10,7 @@ use std::time::Clock;
 /// The size of a body in bytes.
 const SIZE: usize = 1_048_576;
 
-/// How often each is measured; the least counts.
+/// How often each is measured; the least time counts.
 const TIMES: u32 = 30;
 
 // Bytes that look random, so that each byte is as likely as any other (a linear congruence).
@@ -24,7 +24,7 @@ fn body_of(alloc: Global) -> Result<Vec<u8>, NoMemory> {
     Ok(body)
 }
 
-// Letters alone, none of which is printed in a special way but for the length of its text.
+// Only letters: none is printed in a special way, except for the length of its text.
 fn letters_of(alloc: Global) -> Result<Vec<u8>, NoMemory> {
     let mut body = Vec::new(alloc);
     for n in 0..SIZE {
@@ -66,7 +66,7 @@ fn push_quoted(out: &mut Vec<u8>, byte: u8) -> Result<(), NoMemory> {
     }
 }
 
-// What a plain loop over the bytes does, which pushes what each of them is printed as.
+// A plain loop over the bytes, which pushes the printed form of each.
 #[inline(never)]
 fn plain_loop(out: &mut Vec<u8>, format: Format, body: &[u8]) -> Result<(), NoMemory> {
     for byte in body {
@@ -101,14 +101,14 @@ fn time_loop<R: AllocGlobal + Clock>(
     Ok(least)
 }
 
-/// How long prints in a format took, and how many bytes each of them put.
+/// How long prints in a format took, and how many bytes each of them wrote.
 #[derive(Clone, Copy)]
 struct Printed {
     micros: u128,
     len: usize,
 }
 
-// The least of prints into a buffer that is used again.
+// The least time of prints into a reused buffer.
 fn time_print<R: AllocGlobal + Clock>(
     rt: &R,
     format: Format,
@@ -128,7 +128,7 @@ fn time_print<R: AllocGlobal + Clock>(
     Ok(Printed { micros, len })
 }
 
-// Prints how long the text of a format is, and to standard error how long it took. Whether it could.
+// Prints how long the text of a format is, and to standard error how long it took. Returns whether it could.
 fn compare<R: AllocGlobal + Clock + Eprint + Print>(
     rt: &R,
     name: &str,
@@ -144,7 +144,7 @@ fn compare<R: AllocGlobal + Clock + Eprint + Print>(
     )
 }
 
-// The same of each format.
+// Compares each format.
 fn compare_all<R: AllocGlobal + Clock + Eprint + Print>(
     rt: &R,
     what: &str,
@@ -159,7 +159,7 @@ fn compare_all<R: AllocGlobal + Clock + Eprint + Print>(
     )
 }
 
-/// Bodies of any bytes, and of letters alone. Whether it could.
+/// Measures bodies of any bytes, and of only letters. Returns whether it could.
 pub fn bench<R: AllocGlobal + Clock + Eprint + Print>(rt: &R) -> Result<bool, NoMemory> {
     let any = body_of(rt.alloc())?;
     let letters = letters_of(rt.alloc())?;

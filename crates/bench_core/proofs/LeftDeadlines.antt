@@ -2,7 +2,7 @@
 use Rattle.std.proofs.Common.{◌≡◌, Bool, true, false, List, [], ◌∷◌, length, refl}
 use Rattle.std.specs.Prelude.{filter, not}
 
--- of those that don't pass none passes
+-- no element that failed the test passes it
 pub none_left : {X : Type 0} (p : X → Bool) (xs : List X) → length (filter p (filter (λ x. not (p x)) xs)) ≡ 0
 none_left p [] = refl
 none_left p (x ∷ xs) =

@@ -1,4 +1,4 @@
-//! A core plays a text.
+//! Plays a text on a core.
 use crate::calls::{Call, calls_of};
 use crate::makers::{Made, Scripted, driver_of};
 use crate::scripts::{Gives, gives_of, script};
@@ -17,11 +17,11 @@ use test_core_driver::Driver;
 // No text names more receives: the list doesn't grow while calls are measured.
 const NAMES: usize = 8_192;
 
-/// A core of which rows are measured. It must be spent: `end` ends it.
+/// A core whose rows are measured. It must be spent: `end` ends it.
 struct CoreBench<P: Proto, W: Wire> {
     driver: Driver<P, W>,
     size: u32,
-    /// The receives that began, in this order.
+    /// The receives that began, in order.
     names: Vec<OpName>,
     /// How many operations were due at the last tick.
     due: usize,
@@ -53,7 +53,7 @@ impl<P: Proto, W: Wire> CoreBench<P, W> {
         }
     }
 
-    // The same of a raw request, whose id stands in its header.
+    // Begins the send of a raw request, whose id is in its header.
     fn send_raw<R: AllocGlobal + Wait>(&mut self, rt: &R, c: u32) {
         if let Ok(mut m) = Message::from_body(rt.alloc(), b"x") {
             let _ = m.header_append_u32(2_147_483_648);
@@ -61,14 +61,14 @@ impl<P: Proto, W: Wire> CoreBench<P, W> {
         }
     }
 
-    // Collects the operation that began first, and sends what it received.
+    // Collects the operation that began first, and sends its message on.
     fn pass_on<R: Wait>(&mut self, rt: &R, c: u32) {
         if let Some(Outcome::Received(m)) = self.driver.collect_first(rt) {
             let _ = self.driver.begin_send(rt, Ctx(c), m, None);
         }
     }
 
-    // The moment is this tick.
+    // Moves the core's time to this tick.
     fn tick<R: AllocGlobal + Wait>(&mut self, rt: &R, now: u32) {
         self.due = match self.driver.tick(rt, rt.alloc(), Tick(u64::from(now))) {
             Ok(due) => due.as_slice().len(),
@@ -76,14 +76,14 @@ impl<P: Proto, W: Wire> CoreBench<P, W> {
         };
     }
 
-    // Cancels the receive before which so many began.
+    // Cancels the receive before which `before` others began.
     fn cancel(&mut self, before: u32) {
         if let Some(op) = self.names.get(before as usize) {
             let _ = self.driver.cancel(*op);
         }
     }
 
-    // Ends the same receive for its deadline, if more than so many were due: those that began first have the first deadlines.
+    // Lets that receive time out, if more than `before` were due: those that began first have the first deadlines.
     fn expire(&mut self, before: u32) {
         if before as usize >= self.due {
             return;
@@ -95,7 +95,7 @@ impl<P: Proto, W: Wire> CoreBench<P, W> {
 }
 
 impl<P: Proto, W: Scripted> CoreBench<P, W> {
-    // Makes a call that has a number, after so many times.
+    // Makes a call that has a number, after `times` repetitions.
     fn make<R: AllocGlobal + Clock + Wait>(&mut self, rt: &R, call: Call, times: u32) {
         match call {
             Call::Shut(c) => {
@@ -119,7 +119,7 @@ impl<P: Proto, W: Scripted> CoreBench<P, W> {
         }
     }
 
-    // Makes a call that has none.
+    // Makes a call that has no number.
     fn make_alone<R: Clock + Wait>(&mut self, rt: &R, call: Call) {
         match call {
             Call::Open => {
@@ -146,14 +146,14 @@ impl<P: Proto, W: Scripted> CoreBench<P, W> {
         }
     }
 
-    // Makes each of these calls, after so many times.
+    // Makes each of these calls, after `times` repetitions.
     fn make_each<R: AllocGlobal + Clock + Wait>(&mut self, rt: &R, calls: &[Call], times: u32) {
         for call in calls {
             self.make(rt, *call, times);
         }
     }
 
-    // Makes these calls so often. What they take is added to what was timed.
+    // Makes these calls `count` times. Their time is added to what was timed.
     fn repeat<R: AllocGlobal + Clock + Wait>(&mut self, rt: &R, count: u32, calls: &str) -> bool {
         let Some(calls) = calls_of(rt.alloc(), self.size, calls) else {
             return false;
@@ -166,7 +166,7 @@ impl<P: Proto, W: Scripted> CoreBench<P, W> {
         true
     }
 
-    // One pipe more, after so many, if there is memory for it. It takes so many messages.
+    // Attaches one more pipe, after `before` others, if there is memory for it. Its wire takes `room` messages.
     fn attach<R: AllocGlobal + Wait>(&mut self, rt: &R, room: u32, gives: Gives, before: u32) {
         if let Ok(script) = script(rt.alloc(), gives, before) {
             let wire = W::scripted(rt.alloc(), script, u64::from(room));
@@ -174,7 +174,7 @@ impl<P: Proto, W: Scripted> CoreBench<P, W> {
         }
     }
 
-    // So many pipes come.
+    // Attaches as many pipes as the line says.
     fn attach_all<R: AllocGlobal + Clock + Wait>(&mut self, rt: &R, line: &mut Line<'_>) -> bool {
         let count = line.count();
         let room = line.count();
@@ -190,14 +190,14 @@ impl<P: Proto, W: Scripted> CoreBench<P, W> {
         true
     }
 
-    // Says what a unit took, of so many that took this together.
+    // Writes the cost of a unit, of as many as the line says, which took `nanos` together.
     fn say<R: Eprint>(&self, rt: &R, nanos: u128, line: &mut Line<'_>) -> bool {
         let units = line.count();
         report(rt, line.rest(), self.size, nanos, units);
         true
     }
 
-    // Plays a line of calls. Whether it is one.
+    // Plays a line of calls. Returns whether it is one.
     fn repeats<R: AllocGlobal + Clock + Wait>(
         &mut self,
         rt: &R,
@@ -215,7 +215,7 @@ impl<P: Proto, W: Scripted> CoreBench<P, W> {
         self.repeat(rt, count, line.rest())
     }
 
-    // Plays a line. Whether it is one.
+    // Plays a line. Returns whether it is one.
     fn is_right<R: AllocGlobal + Clock + Eprint + Wait>(&mut self, rt: &R, text: &str) -> bool {
         let mut line = Line::new(self.size, text);
         let is_right = match line.word() {
@@ -228,7 +228,7 @@ impl<P: Proto, W: Scripted> CoreBench<P, W> {
         is_right && line.is_read()
     }
 
-    // Plays these lines, up to the first that is none, which it says.
+    // Plays these lines, up to the first wrong one, which it reports.
     fn play<R: AllocGlobal + Clock + Eprint + Wait>(&mut self, rt: &R, lines: &str) -> bool {
         for text in lines.lines() {
             if !self.is_right(rt, text) {
@@ -240,7 +240,7 @@ impl<P: Proto, W: Scripted> CoreBench<P, W> {
     }
 }
 
-// Closes the core, prints what it counted, collects what is open, and ends it.
+// Closes the core, prints what it counted, collects the open operations, and ends it.
 fn end<P: Proto, W: Scripted, R: AllocGlobal + Print + Wait>(
     rt: &R,
     name: &str,
@@ -270,7 +270,7 @@ fn is_raw(word: &str) -> Option<bool> {
     }
 }
 
-// Plays a text at this size: what core it is of, and the lines.
+// Plays a text at this size: the line that tells the core, and the lines of calls.
 fn play_at<P: Made, W: Scripted, R: AllocGlobal + Clock + Eprint + Print + Wait>(
     rt: &R,
     size: u32,
@@ -314,7 +314,7 @@ fn play_at_each<P: Made, W: Scripted, R: AllocGlobal + Clock + Eprint + Print + 
     true
 }
 
-/// Plays each of these texts. Whether there was memory for their cores, and each line is one.
+/// Plays each of these texts. Returns whether there was memory for their cores, and every line was right.
 pub fn play_all<P: Made, W: Scripted, R: AllocGlobal + Clock + Eprint + Print + Wait>(
     rt: &R,
     texts: &str,

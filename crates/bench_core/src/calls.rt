@@ -14,7 +14,7 @@ pub enum Call {
     /// With a deadline.
     ReceiveBy(Number, Number),
     ReceiveNow(Number),
-    /// What the operation received that began first is sent again.
+    /// Sends again what the first operation received.
     PassOn(Number),
     CollectFirst,
     CollectLast,
@@ -26,7 +26,7 @@ pub enum Call {
     Tick(Number),
     TakeEnded,
     Close,
-    /// No call: what comes next is timed apart from what came before.
+    /// No call: what follows is timed apart from what came before.
     Switch,
 }
 
@@ -61,7 +61,7 @@ fn with_number(name: &str, number: Number) -> Option<Call> {
     }
 }
 
-// The call of this name with the numbers behind it.
+// The call of this name with the numbers after it.
 fn named(name: &str, line: &mut Line<'_>) -> Option<Call> {
     if let Some(call) = alone(name) {
         return Some(call);
@@ -73,7 +73,7 @@ fn named(name: &str, line: &mut Line<'_>) -> Option<Call> {
     with_number(name, number)
 }
 
-// The call that the words are, at this size.
+// The call of the words, at this size.
 fn call_of(size: u32, words: &str) -> Option<Call> {
     let mut line = Line::new(size, words);
     let call = named(line.word(), &mut line)?;

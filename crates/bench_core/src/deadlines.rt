@@ -1,4 +1,4 @@
-//! Deadlines in a wheel and in a sorted list: what a call on them costs as they grow.
+//! Deadlines in a wheel and in a sorted list: the cost of a call as they grow.
 ghost use Rattle.std.specs.Prelude.{◌≡◌, ◌<◌, ◌≤◌};
 
 use aio_expire::{Deadlines, Due, ListDeadlines, NameList};
@@ -23,7 +23,7 @@ struct DueBench<'a, D: Due> {
     deadlines: D,
     names: NameList,
     slots: u32,
-    /// How they are kept.
+    /// The name of the form in which they are kept.
     form: &'a str,
     /// How many were due at all ticks.
     due: usize,
@@ -32,7 +32,7 @@ struct DueBench<'a, D: Due> {
 }
 
 impl<'a, D: Due> DueBench<'a, D> {
-    // The slot has this deadline, and no other.
+    // Gives the slot this deadline, and no other.
     fn put(&mut self, slot: u32, at: u64) {
         if slot < self.slots {
             let _ = self.deadlines.remove(slot);
@@ -44,21 +44,21 @@ impl<'a, D: Due> DueBench<'a, D> {
         }
     }
 
-    // The slots below `count` have deadlines from this moment on.
+    // Gives the slots below `count` deadlines from `from` on.
     fn fill(&mut self, count: u32, from: u64) {
         for slot in 0..count {
             self.put(slot, from.saturating_add(u64::from(slot) * APART));
         }
     }
 
-    // The slots below `count` have none.
+    // Removes the deadlines of the slots below `count`.
     fn remove(&mut self, count: u32) {
         for slot in 0..count {
             let _ = self.deadlines.remove(slot);
         }
     }
 
-    // What is due is named.
+    // Names what is due.
     fn tick(&mut self, now: u64) {
         self.names.clear();
         if self.names.spare() >= self.slots as usize {
@@ -67,20 +67,20 @@ impl<'a, D: Due> DueBench<'a, D> {
         self.due = self.due.saturating_add(self.names.as_slice().len());
     }
 
-    // Each tick of these comes.
+    // Ticks at each of these moments.
     fn tick_each(&mut self, from: u64, to: u64) {
         for now in from..to {
             self.tick(now);
         }
     }
 
-    // Says what each of `count` took, of the time of one kind.
+    // Writes the cost of each of `count` units, of the time of one kind.
     fn say<R: Eprint>(&self, rt: &R, what: &str, nanos: u128, count: u64) {
         let each = nanos / u128::from(count.max(1));
         let _ = eprintln!(rt; "{what}, {} at {}: {each} ns", self.form, self.slots);
     }
 
-    // The first deadlines are removed and put again.
+    // Measures removing the first deadlines and putting them again.
     fn remove_and_put<R: Clock + Eprint>(&mut self, rt: &R) {
         self.watch.clear();
         self.watch.go_on(rt);
@@ -95,7 +95,7 @@ impl<'a, D: Due> DueBench<'a, D> {
         self.say(rt, "a deadline is put", self.watch.others(), 4_096);
     }
 
-    // These ticks come one by one, and what each of `count` took is said.
+    // Measures these ticks one by one, and writes the cost of each of `count` units.
     fn time_ticks<R: Clock + Eprint>(&mut self, rt: &R, what: &str, from: u64, to: u64) {
         self.watch.clear();
         self.watch.go_on(rt);
@@ -104,7 +104,7 @@ impl<'a, D: Due> DueBench<'a, D> {
         self.say(rt, what, self.watch.nanos(), to.saturating_sub(from));
     }
 
-    // This moment comes, and what it took for each deadline is said.
+    // Measures one tick at this moment, and writes its cost for each deadline.
     fn time_jump<R: Clock + Eprint>(&mut self, rt: &R, what: &str, now: u64) {
         self.watch.clear();
         self.watch.go_on(rt);
@@ -114,7 +114,7 @@ impl<'a, D: Due> DueBench<'a, D> {
         self.say(rt, what, self.watch.nanos(), count);
     }
 
-    // All rows.
+    // Measures all rows.
     fn rows<R: Clock + Eprint + Print>(&mut self, rt: &R) {
         self.fill(self.slots, 1_000_000);
         self.remove_and_put(rt);
@@ -132,7 +132,7 @@ impl<'a, D: Due> DueBench<'a, D> {
     }
 }
 
-// Rows of both forms, with deadlines of these slots.
+// Measures the rows of both forms, with deadlines of these slots.
 fn rows_at<R: AllocGlobal + Clock + Eprint + Print>(
     rt: &R,
     alloc: Global,
@@ -161,7 +161,7 @@ fn rows_at<R: AllocGlobal + Clock + Eprint + Print>(
     Ok(())
 }
 
-/// All rows of deadlines.
+/// Measures all rows of deadlines.
 pub fn rows<R: AllocGlobal + Clock + Eprint + Print>(rt: &R) -> Result<(), NoMemory> {
     let alloc = rt.alloc();
     rows_at(rt, alloc, 16)?;

@@ -1,39 +1,40 @@
-//! What a call of the core costs a push, a pull, a req, a rep and a surveyor as pipes, contexts and operations grow, over
-//! wires in memory that take no time of their own: nanoseconds for each pipe or operation that it touches, on standard
-//! error. On standard output it prints what each socket counted until its close, which is the same at any speed: so a row
-//! that measured refusals would be seen. The first rows are of deadlines, in a wheel and in a sorted list.
+//! The cost of calls of the core for a push, a pull, a req, a rep and a surveyor as pipes, contexts and operations
+//! grow, over wires in memory that take no time of their own: nanoseconds for each pipe or operation that it touches,
+//! on standard error. On standard output it prints what each socket counted until its close, which is the same at any
+//! speed, so a row that measured refusals would show. The first rows measure deadlines, in a wheel and in a sorted
+//! list.
 //!
-//! Each core plays a text. Behind `#` stand the sizes at which it is played: a queue that doubles its room has just enough
-//! at a power of 2, so where that matters one size is none. The first one is small, since what runs first takes longer.
-//! The next line is `cooked SLOTS NAME` or `raw SLOTS NAME`, where NAME is for what the socket counted. Then come lines of
-//! these:
+//! Each core plays a text. The sizes at which it is played follow `#`: a queue that doubles its room has just enough at
+//! a power of 2, so where that matters one size isn't one. The first size is small, since what runs first takes longer.
+//! The next line is `cooked SLOTS NAME` or `raw SLOTS NAME`, where NAME names the socket's counts. Then follow lines of
+//! these kinds:
 //!
 //! | line | what it says |
 //! |---|---|
 //! | `once CALL, CALL..` | the calls are made |
-//! | `repeat COUNT CALL, CALL..` | they are made so often, one after the other each time |
-//! | `and_once CALL, CALL..`, `and_repeat COUNT CALL, CALL..` | the same, and what the lines before took counts too |
-//! | `pipes COUNT ROOM GIVES` | so many pipes come, over wires that take so many messages, and give this |
-//! | `row UNITS NAME` | what the line before took, for each of so many units |
-//! | `row_apart UNITS NAME` | the same of what it took after each other `switch` |
+//! | `repeat COUNT CALL, CALL..` | the calls are made COUNT times, in this order |
+//! | `and_once CALL, CALL..`, `and_repeat COUNT CALL, CALL..` | the same; the time of the lines before counts too |
+//! | `pipes COUNT ROOM GIVES` | COUNT pipes come, over wires that take ROOM messages and give this |
+//! | `row UNITS NAME` | the time of the line before, for each of UNITS units |
+//! | `row_apart UNITS NAME` | the same for its time after every other `switch` |
 //!
 //! | call | what it does |
 //! |---|---|
 //! | `open`, `shut CONTEXT` | a context is opened, and shut |
-//! | `send CONTEXT`, `send_raw CONTEXT` | a send begins; the same of a raw request |
+//! | `send CONTEXT`, `send_raw CONTEXT` | a send begins, and one of a raw request |
 //! | `receive CONTEXT`, `receive_by CONTEXT TICK` | a receive begins, without and with a deadline |
 //! | `receive_now CONTEXT` | a message is received at once |
-//! | `collect_first`, `collect_last` | what began first, or last, of what is open is collected |
-//! | `pass_on CONTEXT` | what began first is collected, and a send of what it received begins |
-//! | `cancel RECEIVE`, `expire RECEIVE` | the receive is cancelled, and ends for its deadline if it was due |
+//! | `collect_first`, `collect_last` | the first or the last open operation is collected |
+//! | `pass_on CONTEXT` | the first open operation is collected, and a send of its message begins |
+//! | `cancel RECEIVE`, `expire RECEIVE` | the receive is cancelled, and times out if it was due |
 //! | `forget` | receives are counted from 0 again |
 //! | `serve`, `tick TICK` | the pipes are served, and the clock goes on |
 //! | `take_ended`, `close` | a pipe that is down is taken, and the core is closed |
-//! | `switch` | what comes next is timed apart from what came before |
+//! | `switch` | what follows is timed apart from what came before |
 //!
-//! A wire gives `plain COUNT`, so many frames of one byte; `ids FIRST COUNT`, so many with ids from this one on;
-//! `ids_apart FIRST COUNT`, the same with one in a serve; or `end_after COUNT`, nothing in so many serves, and its end.
-//! `bench_base` says what a number may be; behind `pipes`, `i` is how many of them came before.
+//! A wire gives `plain COUNT`, COUNT frames of one byte; `ids FIRST COUNT`, COUNT frames with ids from FIRST on;
+//! `ids_apart FIRST COUNT`, the same with one in each serve; or `end_after COUNT`, nothing in COUNT serves, and then
+//! its end. `bench_base` says what a number may be; after `pipes`, `i` is the number of pipes that came before.
 #![tactic(auto)]
 
 mod bench;
@@ -56,7 +57,7 @@ use std::io::{self, Eprint, Print};
 use std::sync::Wait;
 use std::time::Clock;
 
-// Plays the texts of all five roles. Whether it could.
+// Plays the texts of all five roles. Returns whether it could.
 fn each_role<
     U: Made,
     L: Made,

@@ -1,4 +1,5 @@
-//! Machines, wires and cores that can be made. Plays are over any of them: written-out types are dear to prove about.
+//! Machines, wires and cores that can be made. Plays are generic over them, since proofs about written-out types are
+//! costly.
 ghost use Rattle.std.specs.Prelude.{◌<◌, ◌≤◌, IfOk};
 ghost use Rattle.sp_proto.specs.Kinds.{Kind, Starts};
 ghost use Rattle.core_state.specs.Wires.{IsUnused};
@@ -16,7 +17,7 @@ use test_core_driver::Driver;
 
 /// A machine that can be made.
 pub trait Made: Proto {
-    /// One to which nothing has happened, raw or cooked.
+    /// A new machine, raw or cooked.
     fn made(alloc: Global, raw: bool) -> Result<Self, NoMemory>
         ensures { IfOk result (λ m. (k : Kind) × Starts Self.ties m k) };
 }
@@ -61,7 +62,7 @@ impl Made for Survey {
 
 /// A wire that can be made of a script.
 pub trait Scripted: Wire + Drop {
-    /// One that gives what the script has, and takes so many messages.
+    /// A wire that gives the script, and takes `room` messages.
     fn scripted(alloc: Global, script: Vec<WireStep>, room: u64) -> Self
         ensures { IsUnused (Self.shown result) };
 }
@@ -72,7 +73,7 @@ impl Scripted for MemWire {
     }
 }
 
-/// A core of so many slots, with no pipe. A core has 1 to 4,096.
+/// A core of `slots` slots, 1 to 4,096, with no pipe.
 pub fn driver_of<P: Made, W: Wire>(
     alloc: Global,
     raw: bool,

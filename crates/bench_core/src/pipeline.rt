@@ -15,7 +15,8 @@ pub const PUSH: &str = "# 64 256 1024 3000 4096
     row 4096 begin_send over free pipes and collect
 ";
 
-// A pull has n slots, so all that one row began is collected before the next, or that could not begin as many.
+// A pull has n slots, so each row's receives are collected before the next row, which could not begin as many
+// otherwise.
 pub const PULL: &str = "# 64 256 1024 3000 4096
     cooked n receives of a pull, collected from the first
     pipes n 0 plain 1

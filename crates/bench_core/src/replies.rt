@@ -1,8 +1,8 @@
-//! Replies of a rep. It takes one request of a pipe, until that is received.
+//! Replies of a rep. It takes no other request of a pipe until the first is received.
 //!
-//! - Where contexts wait, a request comes to the one that has waited longest. It replies, and waits again.
+//! - Where contexts wait, a request goes to the one that has waited longest. It replies, and waits again.
 //! - A raw reply goes where its header says that it came from.
-//! - That as many receives begin again on contexts with scattered numbers shows that each was collected.
+//! - Each receive was collected, since as many begin again on contexts with scattered numbers.
 
 pub const REP: &str = "# 64 256 1024 3000 4096
     cooked n a rep that each pipe asks

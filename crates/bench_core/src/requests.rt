@@ -1,13 +1,13 @@
 //! Requests of a req.
 //!
-//! - In trips the first pipe gives the replies, one in a serve; a raw req takes no more of a pipe. The serves are timed
-//!   apart.
-//! - Where n - 2 others wait, what grows or is closed up once in so many calls has its share in each.
-//! - A pipe that goes down sends what was out on it out again on the others.
-//! - Where requests are replaced, a tick comes between, so that what went out for those before is left behind.
+//! - In round trips the first pipe gives the replies, one in each serve; a raw req takes no more of a pipe. The serves
+//!   are timed apart.
+//! - Where n - 2 others wait, the cost of what grows or shrinks once in many calls is spread over all of them.
+//! - When a pipe goes down, its requests go out again on the others.
+//! - Where requests are replaced, a tick lies between, so that what went out for the earlier ones is stale.
 //! - The row of full pipes grows with the pipes: each turn that ends asks each pipe for room, since what is left then is
 //!   only what can't go out.
-//! - Where four pipes have room, the first request asks all.
+//! - Where four pipes have room, the first request asks all of them.
 
 pub const REQ: &str = "# 64 256 1024 3000 4096
     cooked n trips of a req

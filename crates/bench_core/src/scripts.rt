@@ -1,24 +1,24 @@
-//! What the wire of a pipe gives.
+//! The scripts of the wires of pipes.
 use bench_base::line::Line;
 use bench_base::number::Number;
 use sp_base::{Bytes, NoMemory};
 use sp_fakes::WireStep;
 use std::alloc::Global;
 
-/// What a wire gives before it gives nothing more.
+/// What a wire gives before it goes silent.
 #[derive(Clone, Copy)]
 pub enum Gives {
-    /// So many frames of one byte.
+    /// As many frames of one byte.
     Plain(u32),
-    /// So many frames with ids from this one on: of requests, replies, surveys or responses.
+    /// Frames with ids from the first number on, as many as the second says: requests, replies, surveys or responses.
     Ids(Number, u32),
-    /// The same, one in a serve.
+    /// The same, one in each serve.
     IdsApart(Number, u32),
-    /// Nothing in so many serves, and then its end.
+    /// Nothing in as many serves, and then the end.
     End(u32),
 }
 
-/// What the rest of the line says that the wire of a pipe gives.
+/// Reads from the rest of the line what a pipe's wire gives.
 pub fn gives_of(line: &mut Line<'_>) -> Option<Gives> {
     match line.word() {
         "plain" => Some(Gives::Plain(line.count())),
@@ -29,7 +29,7 @@ pub fn gives_of(line: &mut Line<'_>) -> Option<Gives> {
     }
 }
 
-// So many frames of one byte.
+// The script of `frames` frames of one byte.
 fn plain(alloc: Global, frames: u32) -> Result<Vec<WireStep>, NoMemory> {
     let mut script = Vec::new(alloc);
     for _ in 0..frames {
@@ -44,7 +44,7 @@ fn numbered(alloc: Global, id: u32) -> Result<WireStep, NoMemory> {
     Ok(WireStep::Bytes(Bytes::from_slice(alloc, &[a | 128, b, c, d, 120])?))
 }
 
-// So many frames with ids from the first one on, with or without pauses.
+// The script of `count` frames with ids from `first` on, with or without pauses.
 fn series(alloc: Global, first: u32, count: u32, pauses: bool) -> Result<Vec<WireStep>, NoMemory> {
     let mut script = Vec::new(alloc);
     for i in 0..count {
@@ -56,7 +56,7 @@ fn series(alloc: Global, first: u32, count: u32, pauses: bool) -> Result<Vec<Wir
     Ok(script)
 }
 
-// So many pauses, and the end.
+// The script of `pauses` pauses and the end.
 fn ending(alloc: Global, pauses: u32) -> Result<Vec<WireStep>, NoMemory> {
     let mut script = Vec::new(alloc);
     for _ in 0..pauses {
@@ -66,7 +66,7 @@ fn ending(alloc: Global, pauses: u32) -> Result<Vec<WireStep>, NoMemory> {
     Ok(script)
 }
 
-/// The script of the wire before which so many were made.
+/// The script of the wire before which `before` others were made.
 pub fn script(alloc: Global, gives: Gives, before: u32) -> Result<Vec<WireStep>, NoMemory> {
     match gives {
         Gives::Plain(frames) => plain(alloc, frames),

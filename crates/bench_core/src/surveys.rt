@@ -1,4 +1,4 @@
-//! Surveys through the core: of many wires, and of many contexts over one wire, of which a serve takes 64 messages.
+//! Surveys through the core: of many wires, and of many contexts over one wire, from which a serve takes 64 messages.
 
 pub const SURVEYOR: &str = "# 100 1000
     cooked n a survey of wires

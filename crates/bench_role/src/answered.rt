@@ -1,4 +1,4 @@
-//! Replies of a rep. Where some wait at full pipes, the pipes of others go down in the same turn.
+//! Replies of a rep. While some wait for full pipes, the pipes of others go down in the same turn.
 
 pub const REP: &str = "# usual 256 1024 4096
     repeat n up i+1

@@ -1,9 +1,10 @@
 //! Requests of a req.
 //!
 //! - Replies come to the last request first.
-//! - Pipes of the second half go down one after the other, and what was out on each goes out again on one of the first.
-//! - Where requests are replaced, each context sends one in place of its last one, over one pipe, which is full then and
-//!   goes down; after such rounds a pipe comes up, and each request goes out again.
+//! - The pipes of the second half go down one after another, and the requests of each go out again on a pipe of the
+//!   first half.
+//! - Where requests are replaced, each context sends one in place of its last one, over one pipe, which is then full
+//!   and goes down; after such rounds a pipe comes up, and every request goes out again.
 
 pub const REQ: &str = "# usual 256 1024 4096
     repeat n up i+1

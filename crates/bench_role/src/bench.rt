@@ -1,4 +1,4 @@
-//! A machine plays a text.
+//! Plays a text on a machine.
 use crate::calls::{MachineCall, calls_of};
 use crate::makers::MadeMachine;
 use crate::moves::{answer, come, find_lost, idle, receive, send, take, topic, unwanted};
@@ -13,21 +13,21 @@ use std::time::Clock;
 /// A body that begins with none of the topics.
 const STRANGER: &[u8] = b"tzzzz and more";
 
-// So many letters t.
+// `count` letters `t`.
 fn letters(alloc: Global, count: u32) -> Result<Vec<u8>, NoMemory> {
     let mut text = Vec::new(alloc);
     text.resize(count as usize, 116)?;
     Ok(text)
 }
 
-// So many letters t, and an a.
+// `count` letters `t`, and an `a`.
 fn long_topic(alloc: Global, count: u32) -> Result<Vec<u8>, NoMemory> {
     let mut text = letters(alloc, count)?;
     text.push(97)?;
     Ok(text)
 }
 
-// Makes a call that may fail, after so many times. Whether it came to what was wanted.
+// Makes a call that may fail, after `times` repetitions. Returns whether it had the wanted result.
 fn did<M: Proto>(m: &mut M, alloc: Global, call: MachineCall, times: u32) -> bool {
     match call {
         MachineCall::Up(p) => m.up(PipeId(p.after(times))).is_ok(),
@@ -46,7 +46,7 @@ fn did<M: Proto>(m: &mut M, alloc: Global, call: MachineCall, times: u32) -> boo
     }
 }
 
-/// A machine of which rows are measured.
+/// A machine whose rows are measured.
 #[derive(Drop)]
 struct MachineBench<M: Proto> {
     machine: M,
@@ -58,7 +58,7 @@ struct MachineBench<M: Proto> {
 }
 
 impl<M: Proto> MachineBench<M> {
-    // Frames that come have so many letters.
+    // Makes the frames that come `count` letters long.
     fn use_letters(&mut self, count: u32) -> bool {
         match letters(self.alloc, count) {
             Ok(text) => {
@@ -69,7 +69,7 @@ impl<M: Proto> MachineBench<M> {
         }
     }
 
-    // The first context has one long topic more.
+    // Subscribes the first context to one more long topic.
     fn put_letters_on(&mut self, count: u32) -> bool {
         match long_topic(self.alloc, count) {
             Ok(text) => self.machine.topic(Ctx(0), &text, true).is_ok(),
@@ -77,7 +77,7 @@ impl<M: Proto> MachineBench<M> {
         }
     }
 
-    // Makes a call, after so many times. Whether it came to what was wanted.
+    // Makes a call, after `times` repetitions. Returns whether it had the wanted result.
     fn make(&mut self, call: MachineCall, times: u32) -> bool {
         match call {
             MachineCall::Fresh => self.machine.fresh(),
@@ -93,7 +93,7 @@ impl<M: Proto> MachineBench<M> {
         true
     }
 
-    // Makes each of these calls, after so many times.
+    // Makes each of these calls, after `times` repetitions.
     fn make_each(&mut self, calls: &[MachineCall], times: u32) -> bool {
         for call in calls {
             if !self.make(*call, times) {
@@ -103,7 +103,7 @@ impl<M: Proto> MachineBench<M> {
         true
     }
 
-    // Makes these calls so often. What they take is added to what was timed.
+    // Makes these calls `count` times. Their time is added to what was timed.
     fn repeat<R: Clock>(&mut self, rt: &R, count: u32, calls: &str) -> bool {
         let Some(calls) = calls_of(self.alloc, self.size, calls) else {
             return false;
@@ -118,14 +118,14 @@ impl<M: Proto> MachineBench<M> {
         true
     }
 
-    // Says what a unit took, of so many.
+    // Writes the cost of a unit, of as many as the line says.
     fn say<R: Eprint>(&self, rt: &R, line: &mut Line<'_>) -> bool {
         let units = line.count();
         report(rt, line.rest(), self.size, self.watch.nanos(), units);
         true
     }
 
-    // Plays a line of calls. Whether it is one.
+    // Plays a line of calls. Returns whether it is one.
     fn repeats<R: Clock>(&mut self, rt: &R, name: &str, line: &mut Line<'_>) -> bool {
         let count = match name {
             "once" | "and_once" => 1,
@@ -138,7 +138,7 @@ impl<M: Proto> MachineBench<M> {
         self.repeat(rt, count, line.rest())
     }
 
-    // Plays a line. Whether it is one, and its calls came to what was wanted.
+    // Plays a line. Returns whether it is one, and its calls had the wanted results.
     fn is_right<R: Clock + Eprint>(&mut self, rt: &R, text: &str) -> bool {
         let mut line = Line::new(self.size, text);
         let is_right = match line.word() {
@@ -149,7 +149,7 @@ impl<M: Proto> MachineBench<M> {
         is_right && line.is_read()
     }
 
-    // Plays these lines, up to the first that is not right, which it says.
+    // Plays these lines, up to the first that is not right, which it reports.
     fn play<R: Clock + Eprint>(&mut self, rt: &R, lines: &str) -> bool {
         for text in lines.lines() {
             if !self.is_right(rt, text) {
@@ -185,7 +185,7 @@ fn play_at<M: MadeMachine, R: AllocGlobal + Clock + Eprint>(
     bench.play(rt, lines)
 }
 
-// The room of queues; none where it is the usual one.
+// The room of queues, or `None` where it is the usual one.
 fn queue_of(word: &str) -> Option<Option<u32>> {
     if word == "usual" {
         return Some(None);
@@ -193,7 +193,7 @@ fn queue_of(word: &str) -> Option<Option<u32>> {
     Some(Some(word.parse::<u32>().ok()?))
 }
 
-// Plays a text at each of the sizes in its first line, behind the room of queues or `usual`.
+// Plays a text at each of the sizes in its first line, which follow the room of queues or `usual`.
 fn play_at_each<M: MadeMachine, R: AllocGlobal + Clock + Eprint>(rt: &R, text: &str) -> bool {
     let Some((head, lines)) = text.split_once('\n') else {
         return text.is_empty();
@@ -213,7 +213,7 @@ fn play_at_each<M: MadeMachine, R: AllocGlobal + Clock + Eprint>(rt: &R, text: &
     true
 }
 
-/// Plays each of these texts. Whether all lines are right, and there was memory.
+/// Plays each of these texts. Returns whether all lines were right, and there was memory.
 pub fn play_all<M: MadeMachine, R: AllocGlobal + Clock + Eprint>(rt: &R, texts: &str) -> bool {
     for text in texts.split('#') {
         if !play_at_each::<M, R>(rt, text) {

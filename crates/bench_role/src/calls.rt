@@ -10,30 +10,30 @@ pub enum MachineCall {
     Up(Number),
     Down(Number),
     Full(Number),
-    /// What is offered goes to a pipe that is full, or that goes down.
+    /// The offered send finds its pipe full, or its pipe goes down.
     FindFull,
     FindDown,
     Clock(Number),
     Open(Number),
     Shut(Number),
-    /// The topic of the context with this number.
+    /// A context, and the number of its topic.
     PutOn(Number, Number),
     TakeOff(Number, Number),
-    /// Letters t, so many, and an a.
+    /// A topic of as many letters `t` and an `a`.
     PutLettersOn(Number),
     /// The slot, and the context.
     Send(Number, Number),
     Receive(Number, Number),
-    /// The pipe, and the id of what comes.
+    /// The pipe, and the id of the message.
     Answer(Number, Number),
-    /// What no topic matches: a text, or so many letters t.
+    /// A frame that no topic matches: a text, or as many letters `t`.
     Stranger,
     Letters(Number),
-    /// What is offered is done, over so many pipes.
+    /// Does what is offered, over as many pipes.
     Take(Number),
-    /// So often nothing is offered.
+    /// Nothing is offered, as many times.
     Idle(Number),
-    /// Of none of so many pipes a frame is wanted.
+    /// No frame is wanted from any of as many pipes.
     Unwanted(Number),
 }
 
@@ -78,7 +78,7 @@ fn with_two(name: &str, first: Number, second: Number) -> Option<MachineCall> {
     }
 }
 
-// The call of this name with the numbers behind it, of which there are two where more than one word is left.
+// The call of this name with the numbers after it; there are two numbers where more than one word is left.
 fn named(name: &str, line: &mut Line<'_>) -> Option<MachineCall> {
     if let Some(call) = alone(name) {
         return Some(call);
@@ -90,7 +90,7 @@ fn named(name: &str, line: &mut Line<'_>) -> Option<MachineCall> {
     with_two(name, first, line.number()?)
 }
 
-// The call that the words are, at this size.
+// The call of the words, at this size.
 fn call_of(size: u32, words: &str) -> Option<MachineCall> {
     let mut line = Line::new(size, words);
     let call = named(line.word(), &mut line)?;

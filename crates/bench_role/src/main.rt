@@ -1,15 +1,15 @@
-//! What the machines of pub, sub, surveyor, req and rep take for a call, as topics, contexts, pipes, live requests and
-//! what is kept grow: nanoseconds for each unit of work, on standard error. What is printed is the same at any speed.
+//! The cost of a call of the machines of pub, sub, surveyor, req and rep, as topics, contexts, pipes, live requests and
+//! queues grow: nanoseconds for each unit of work, on standard error. What is printed is the same at any speed.
 //!
-//! Each machine plays a text. Behind `#` stand the room of a sub's queues, or `usual`, and the sizes at which it is played.
-//! Then come lines of these:
+//! Each machine plays a text. The room of a sub's queues, or `usual`, follows `#`, and then the sizes at which it is
+//! played. Then follow lines of these kinds:
 //!
 //! | line | what it says |
 //! |---|---|
 //! | `once CALL, CALL..` | the calls are made |
-//! | `repeat COUNT CALL, CALL..` | they are made so often, one after the other each time |
-//! | `and_once CALL, CALL..`, `and_repeat COUNT CALL, CALL..` | the same, and what the lines before took counts too |
-//! | `row UNITS NAME` | what the line before took, for each of so many units |
+//! | `repeat COUNT CALL, CALL..` | the calls are made COUNT times, in this order |
+//! | `and_once CALL, CALL..`, `and_repeat COUNT CALL, CALL..` | the same; the time of the lines before counts too |
+//! | `row UNITS NAME` | the time of the line before, for each of UNITS units |
 //!
 //! | call | what it does |
 //! |---|---|
@@ -17,18 +17,18 @@
 //! | `fresh`, `full PIPE` | a turn begins, and the pipe has no room in it |
 //! | `clock TICK` | the clock goes on |
 //! | `open CONTEXT`, `shut CONTEXT` | the context is opened, and shut |
-//! | `put_on CONTEXT NUMBER`, `take_off CONTEXT NUMBER` | a topic of five bytes is put on, and taken off |
-//! | `put_letters_on COUNT` | a topic of so many letters t and an a is put on for context 0 |
+//! | `put_on CONTEXT NUMBER`, `take_off CONTEXT NUMBER` | it subscribes to a topic of five bytes, and unsubscribes |
+//! | `put_letters_on COUNT` | context 0 subscribes to COUNT letters t and an a |
 //! | `send SLOT CONTEXT`, `receive SLOT CONTEXT` | a send and a receive begin |
 //! | `answer PIPE ID` | a reply or a response with this id comes, or a request |
 //! | `stranger` | a frame that no topic matches comes on pipe 1 |
-//! | `letters COUNT` | from now on that frame is so many letters t |
-//! | `take PIPES` | what is offered is done, over so many pipes |
-//! | `find_full`, `find_down` | the pipe of the send that is offered is full, and goes down |
-//! | `idle COUNT` | so often nothing is offered |
-//! | `unwanted PIPES` | of none of so many pipes a frame is wanted |
+//! | `letters COUNT` | from now on that frame is COUNT letters t |
+//! | `take PIPES` | what is offered is done, over PIPES pipes |
+//! | `find_full`, `find_down` | the pipe of the offered send is full, and goes down |
+//! | `idle COUNT` | nothing is offered, COUNT times |
+//! | `unwanted PIPES` | no frame is wanted from any of PIPES pipes |
 //!
-//! `bench_base` says what a number may be. A call that comes to something else ends the program with an error.
+//! `bench_base` says what a number may be. A call with another result ends the program with an error.
 #![tactic(auto)]
 
 mod answered;
@@ -48,7 +48,7 @@ use proto_survey::Survey;
 use std::io::{self, Eprint};
 use std::time::Clock;
 
-// Plays the texts of all five roles. Whether it could.
+// Plays the texts of all five roles. Returns whether it could.
 fn each_role<
     U: MadeMachine,
     B: MadeMachine,

@@ -1,4 +1,4 @@
-//! Machines that can be made. Plays are over any of them: written-out types are dear to prove about.
+//! Machines that can be made. Plays are generic over them, since proofs about written-out types are costly.
 use proto_pubsub::{Publish, Subscribe};
 use proto_reqrep::{Reply, Request};
 use proto_survey::Survey;
@@ -9,7 +9,7 @@ use std::alloc::Global;
 
 /// A machine that can be made.
 pub trait MadeMachine: Proto {
-    /// One with the usual options of its role. A sub may have queues of this room.
+    /// A machine with the usual options of its role. A sub may have queues of room `queue`.
     fn made(alloc: Global, queue: Option<u32>) -> Result<Self, NoMemory>;
 }
 

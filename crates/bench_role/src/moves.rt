@@ -1,5 +1,5 @@
-//! What a benchmark does with a machine. Each step says whether it came to what was wanted, so that no row measures
-//! refusals: a frame that isn't fine, nothing to take, a copy that isn't there.
+//! The steps that a benchmark takes with a machine. Each returns whether it had the wanted result, so that no row
+//! measures refusals: a malformed frame, nothing to take, a missing copy.
 use sp_base::{Ctx, OpName, PipeId};
 use sp_msg::Message;
 use sp_proto::{Act, Offer, Proto, Verdict};
@@ -13,7 +13,7 @@ fn op(slot: u32) -> OpName {
     }
 }
 
-/// A send begins.
+/// Begins a send. Returns whether it began.
 pub fn send<M: Proto>(m: &mut M, alloc: Global, slot: u32, c: u32) -> bool {
     match Message::from_body(alloc, b"x") {
         Ok(message) => {
@@ -23,12 +23,12 @@ pub fn send<M: Proto>(m: &mut M, alloc: Global, slot: u32, c: u32) -> bool {
     }
 }
 
-/// A receive begins.
+/// Begins a receive. Returns whether it began.
 pub fn receive<M: Proto>(m: &mut M, slot: u32, c: u32) -> bool {
     m.reserve(1).is_ok() && m.begin(op(slot), Ctx(c), Act::Recv).is_ok()
 }
 
-/// A frame comes on the pipe, and is fine.
+/// Gives the machine a frame on the pipe. Returns whether it was fine.
 pub fn come<M: Proto>(m: &mut M, alloc: Global, p: u32, body: &[u8]) -> bool {
     match Message::from_body(alloc, body) {
         Ok(message) => m.frame(PipeId(p), message) == Verdict::Fine,
@@ -36,19 +36,19 @@ pub fn come<M: Proto>(m: &mut M, alloc: Global, p: u32, body: &[u8]) -> bool {
     }
 }
 
-/// A reply or a response with this id comes, or a request.
+/// Gives the machine a reply or a response with this id, or a request. Returns whether it was fine.
 pub fn answer<M: Proto>(m: &mut M, alloc: Global, p: u32, id: u32) -> bool {
     let [a, b, c, d] = id.to_be_bytes();
     come(m, alloc, p, &[a | 128, b, c, d, 114])
 }
 
-/// The topic of the context with this number, of five bytes, is put on or taken off.
+/// Subscribes the context to its topic with this number, of five bytes, or unsubscribes it. Returns whether it did.
 pub fn topic<M: Proto>(m: &mut M, c: u32, number: u32, on: bool) -> bool {
     let [w, x, y, z] = number.to_be_bytes();
     m.topic(Ctx(c), &[116, w, x, y, z], on).is_ok()
 }
 
-/// What is offered is done. Something is.
+/// Does what is offered, over pipes 1 to `pipes`. Returns whether something was.
 pub fn take<M: Proto>(m: &mut M, pipes: u32) -> bool {
     match m.offer() {
         Offer::Give { op } => m.won(op, None).is_some(),
@@ -67,7 +67,7 @@ pub fn take<M: Proto>(m: &mut M, pipes: u32) -> bool {
     }
 }
 
-// The send goes out on each of the pipes that it may go to.
+// Sends the operation on each of the pipes that it may go to. Returns whether it went out.
 fn flood<M: Proto>(m: &mut M, op: OpName, pipes: u32) -> bool {
     for i in 0..pipes {
         let p = PipeId(i + 1);
@@ -79,7 +79,7 @@ fn flood<M: Proto>(m: &mut M, op: OpName, pipes: u32) -> bool {
     true
 }
 
-/// So often nothing is offered.
+/// Returns whether nothing is offered, `count` times.
 pub fn idle<M: Proto>(m: &mut M, count: u32) -> bool {
     for _ in 0..count {
         if m.offer() != Offer::Idle {
@@ -89,7 +89,7 @@ pub fn idle<M: Proto>(m: &mut M, count: u32) -> bool {
     true
 }
 
-/// Of none of so many pipes a frame is wanted.
+/// Returns whether no frame is wanted from any of pipes 1 to `pipes`.
 pub fn unwanted<M: Proto>(m: &M, pipes: u32) -> bool {
     for i in 0..pipes {
         if m.wants(PipeId(i + 1)) {
@@ -99,7 +99,7 @@ pub fn unwanted<M: Proto>(m: &M, pipes: u32) -> bool {
     true
 }
 
-/// The send that is offered finds its pipe full, or the pipe goes down.
+/// Makes the pipe of the offered send full, or takes it down. Returns whether a send was offered.
 pub fn find_lost<M: Proto>(m: &mut M, goes_down: bool) -> bool {
     match m.offer() {
         Offer::Send { op: _, pipe } => {

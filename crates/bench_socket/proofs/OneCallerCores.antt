@@ -1,4 +1,4 @@
--- A core that its one caller has for itself, after one turn more.
+-- A core with a single caller, after one more turn.
 use Rattle.std.proofs.Common.{◌≡◌, sym, subst, List, [], ◌∷◌, ◌++◌, ℕ, ◌≤◌}
 use Rattle.turn_lock.specs.declared.turn.Turn.{Turn}
 use Rattle.aio_word.specs.Sight.{Named}

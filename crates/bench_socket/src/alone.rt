@@ -1,4 +1,4 @@
-//! The same calls of a core that its one caller has for itself.
+//! The same calls on a core with a single caller and no socket.
 ghost use Rattle.std.specs.Prelude.{IfOk};
 ghost use Rattle.sp_proto.specs.Kinds.{Kind, Starts};
 ghost use Rattle.core_state.specs.Wires.{IsUnused};
@@ -12,7 +12,7 @@ use sp_proto::Proto;
 use std::alloc::Global;
 use std::sync::Wait;
 
-/// A core of one caller, to which nothing has happened.
+/// A new core with one caller.
 pub fn core_over<P: Proto + Drop, W: Wire>(alloc: Global, proto: P) -> Result<Core<P, W>, NoMemory>
     requires { (k : Kind) × Starts P.ties proto k }
     ensures { IfOk result (IsAlone P.ties P.room W.shown) }
@@ -23,7 +23,7 @@ pub fn core_over<P: Proto + Drop, W: Wire>(alloc: Global, proto: P) -> Result<Co
     }
 }
 
-/// The wire becomes a pipe. Whether it did.
+/// Attaches the wire as a pipe, and returns whether it became one.
 pub fn attach_alone<P: Proto, W: Wire + Drop, R: Wait>(
     rt: &R,
     core: &mut Core<P, W>,
@@ -36,7 +36,7 @@ pub fn attach_alone<P: Proto, W: Wire + Drop, R: Wait>(
     core.attach(rt, 1, wire, 0).is_ok()
 }
 
-// A turn that notes a link.
+// Takes a turn that notes a link.
 fn meet_alone<P: Proto, W: Wire, R: Wait>(rt: &R, core: &mut Core<P, W>)
     requires { IsAlone P.ties P.room W.shown core.old }
     ensures { IsAlone P.ties P.room W.shown core.new }
@@ -52,7 +52,7 @@ fn serve_alone<P: Proto, W: Wire, R: Wait>(rt: &R, core: &mut Core<P, W>)
     core.serve(rt, 1);
 }
 
-// Receives what is kept. Whether there was something.
+// Receives a queued message, and returns whether there was one.
 fn receive_alone<P: Proto, W: Wire, R: Wait>(rt: &R, core: &mut Core<P, W>) -> bool
     requires { IsAlone P.ties P.room W.shown core.old }
     ensures { IsAlone P.ties P.room W.shown core.new }
@@ -60,7 +60,8 @@ fn receive_alone<P: Proto, W: Wire, R: Wait>(rt: &R, core: &mut Core<P, W>) -> b
     core.try_recv(rt, 1, Ctx(0)).is_ok()
 }
 
-// Does it once; whether it came to what was wanted. A core alone does turns, and receives at once.
+// Does the work once, and returns whether it had the wanted result. Without a socket it is a turn, or a receive at
+// once.
 fn once_alone<P: Proto, W: Wire, R: Wait>(rt: &R, core: &mut Core<P, W>, work: Work) -> bool
     requires { IsAlone P.ties P.room W.shown core.old }
     ensures { IsAlone P.ties P.room W.shown core.new }
@@ -73,7 +74,7 @@ fn once_alone<P: Proto, W: Wire, R: Wait>(rt: &R, core: &mut Core<P, W>, work: W
     true
 }
 
-/// Does it so many times; how often it came to what was wanted.
+/// Does the work `times` times, and returns how often it had the wanted result.
 pub fn many_alone<P: Proto, W: Wire, R: Wait>(
     rt: &R,
     core: &mut Core<P, W>,
@@ -92,7 +93,7 @@ pub fn many_alone<P: Proto, W: Wire, R: Wait>(
     done
 }
 
-/// Ends the core; its wires.
+/// Ends the core, and returns its wires.
 pub fn end_alone<P: Proto, W: Wire, R: Wait>(rt: &R, mut core: Core<P, W>) -> WireList<W>
     requires { IsAlone P.ties P.room W.shown core }
 {

@@ -1,4 +1,4 @@
-//! The passes of the socket that is measured.
+//! The passes of the measured socket.
 ghost use Rattle.std.specs.Prelude.{◌≡◌, ◌<◌, [], length, false, IfOk};
 ghost use Rattle.sp_proto.specs.Kinds.{Kind, Starts};
 ghost use Rattle.core_state.specs.Wires.{IsUnused};
@@ -33,7 +33,7 @@ pub fn opened<P: Proto + Drop, W: Wire>(
     }
 }
 
-/// The wire becomes a pipe. Whether it did.
+/// Attaches the wire as a pipe, and returns whether it became one.
 pub fn attach<P: Proto, W: Wire + Drop, R: Wait>(
     rt: &R,
     socket: &Socket<P, W>,
@@ -52,7 +52,7 @@ pub fn attach<P: Proto, W: Wire + Drop, R: Wait>(
     attached
 }
 
-// So many passes of the list.
+// Lends up to `count` passes of the list.
 fn lend<P: Proto, W: Wire>(
     alloc: Global,
     socket: &Socket<P, W>,
@@ -69,7 +69,7 @@ fn lend<P: Proto, W: Wire>(
     passes
 }
 
-// One pass more, if there is one, and memory.
+// Lends one more pass, if there is one, and memory.
 fn lend_one<P: Proto, W: Wire>(
     socket: &Socket<P, W>,
     list: &mut SocketPasses<P, W>,
@@ -88,7 +88,7 @@ fn lend_one<P: Proto, W: Wire>(
     }
 }
 
-// They go back into the list.
+// Puts the passes back into the list.
 fn take_back<P: Proto, W: Wire, R: Wait>(
     rt: &R,
     socket: &Socket<P, W>,
@@ -107,7 +107,7 @@ fn take_back<P: Proto, W: Wire, R: Wait>(
     unreachable!()
 }
 
-// The last of them goes back. Whether there was one.
+// Puts the last of the passes back, and returns whether there was one.
 fn give_last<P: Proto, W: Wire>(
     socket: &Socket<P, W>,
     list: &mut SocketPasses<P, W>,
@@ -127,8 +127,8 @@ fn give_last<P: Proto, W: Wire>(
     }
 }
 
-/// So many callers do the work so many times, each in a thread of its own where one can be made. Adds how often it came
-/// to what was wanted.
+/// Has `callers` callers do the work `times` times, each in a thread of its own where one can be made. Adds to `done`
+/// how often it had the wanted result.
 pub fn do_all<P: Proto + Send, W: Wire + Send, R: Threads + Wait + Sync>(
     rt: &R,
     alloc: Global,
@@ -165,7 +165,7 @@ pub fn end<P: Proto, W: Wire + Drop, R: Wait>(
     let_go(rt, wires)
 }
 
-/// Lets the wires go.
+/// Drops the wires.
 pub fn let_go<W: Drop, R: Wait>(rt: &R, mut wires: WireList<W>) {
     for _ in rt.forever() {
         if wires.pop().is_none() {

@@ -1,6 +1,6 @@
-//! What a turn of a socket costs beside a call of the core alone, and what turns, cancels, receives and races cost one
+//! The cost of a turn of a socket compared with a call of the core, and of turns, cancels, receives and races for one
 //! caller, two and four: nanoseconds for each, on standard error. What is printed is the same at any speed: how many
-//! there were. A number as the program's first word says how many of each there are to be.
+//! there were. A number as the program's first word sets how many of each there are.
 #![tactic(auto)]
 
 mod alone;
@@ -23,10 +23,10 @@ use std::thread::Threads;
 use std::time::Clock;
 use work::Work;
 
-/// How many of each there are, of all callers together, where no word says it. Four share them.
+/// How many of each there are, for all callers together, where the program has no word. Up to four callers share them.
 const TIMES: u32 = 4_000;
 
-/// What is measured: the work, by a core alone or by so many callers of a socket. What is printed begins with the line.
+/// The measured work, by a core without a socket or by some callers of a socket. What is printed begins with the line.
 const ROWS: &str = "Turns by a core alone
 Turns by 1
 Turns by 2
@@ -43,7 +43,7 @@ Races by 1
 Races by 2
 Races by 4";
 
-// What came of a run: how often it was done, in how many nanoseconds, and whether its wire was attached.
+// The result of a run: how often the work was done, in how many nanoseconds, and whether its wire was attached.
 #[derive(Clone, Copy)]
 struct Ran {
     attached: bool,
@@ -51,7 +51,7 @@ struct Ran {
     nanos: u128,
 }
 
-// Does the work so many times by so many callers of a socket, over a wire that has a frame for each receive.
+// Does the work `times` times by `callers` callers of a socket, over a wire that has a frame for each receive.
 fn run<
     P: SocketMachine + Send,
     W: ScriptedWire + Send,
@@ -74,7 +74,7 @@ fn run<
     })
 }
 
-// Does the work so many times by a core alone.
+// Does the work `times` times by a core without a socket.
 fn run_alone<P: SocketMachine, W: ScriptedWire, R: AllocGlobal + Wait + Clock>(
     rt: &R,
     work: Work,
@@ -95,7 +95,7 @@ fn run_alone<P: SocketMachine, W: ScriptedWire, R: AllocGlobal + Wait + Clock>(
     })
 }
 
-// Says how often it was done, and on standard error how long each took. Whether it could.
+// Prints how often it was done, and on standard error how long each took. Returns whether it could.
 fn report<R: Print + Eprint>(rt: &R, row: &str, ran: Ran) -> bool {
     let nanos = ran.nanos / u128::from(ran.done.max(1));
     ran.attached
@@ -103,7 +103,7 @@ fn report<R: Print + Eprint>(rt: &R, row: &str, ran: Ran) -> bool {
         && eprintln!(rt; "{row}: {nanos} ns each").is_ok()
 }
 
-// Measures a row, if it is one. Whether there was memory, and it could be printed.
+// Measures a row, if it is one. Returns whether there was memory, and it could be printed.
 fn is_measured<
     P: SocketMachine + Send,
     W: ScriptedWire + Send,
@@ -130,7 +130,7 @@ fn is_measured<
     }
 }
 
-// Measures all rows. Whether it could.
+// Measures all rows. Returns whether it could.
 fn all<
     P: SocketMachine + Send,
     W: ScriptedWire + Send,
@@ -155,7 +155,7 @@ fn times_of(word: Option<String>) -> u32 {
     }
 }
 
-// Of pulls, over wires in memory.
+// Measures all rows with pulls, over wires in memory.
 fn of_a_pull<R: AllocGlobal + Threads + Wait + Clock + Print + Eprint + Sync>(
     rt: &R,
     times: u32,

@@ -1,4 +1,4 @@
-//! Machines and wires that can be made. Runs are over any of them: written-out types are dear to prove about.
+//! Machines and wires that can be made. Runs are generic over them, since proofs about written-out types are costly.
 ghost use Rattle.std.specs.Prelude.{IfOk};
 ghost use Rattle.sp_proto.specs.Kinds.{Kind, Starts};
 ghost use Rattle.core_state.specs.Wires.{IsUnused};
@@ -13,7 +13,7 @@ use std::alloc::Global;
 
 /// A machine that can be made.
 pub trait SocketMachine: Proto {
-    /// One to which nothing has happened.
+    /// A new machine.
     fn made(alloc: Global) -> Result<Self, NoMemory>
         ensures { IfOk result (λ m. (k : Kind) × Starts Self.ties m k) };
 }
@@ -27,7 +27,7 @@ impl SocketMachine for Pull {
 
 /// A wire that can be made of a script.
 pub trait ScriptedWire: Wire + Drop {
-    /// One that gives what the script has.
+    /// A wire that gives the script.
     fn scripted(alloc: Global, script: Vec<WireStep>) -> Self
         ensures { IsUnused (Self.shown result) };
 }
@@ -38,7 +38,7 @@ impl ScriptedWire for MemWire {
     }
 }
 
-/// A script of so many frames of one byte.
+/// A script of `frames` frames of one byte.
 pub fn script(alloc: Global, frames: u32) -> Result<Vec<WireStep>, NoMemory> {
     let mut steps = Vec::new(alloc);
     for _ in 0..frames {

@@ -23,7 +23,7 @@ pub enum Work {
     Receives,
     /// A receive that its caller cancels before it serves, so that the turns of others race with the cancel.
     Races,
-    /// The pipes are served, and what is kept is received at once: two turns. For one caller.
+    /// The pipes are served, and a queued message is received at once: two turns. For one caller.
     Now,
 }
 
@@ -139,7 +139,7 @@ fn races<P: Proto, W: Wire, R: Wait>(rt: &R, socket: &Socket<P, W>, pass: &mut P
     true
 }
 
-// Receives what is kept. Whether there was something.
+// Receives a queued message, and returns whether there was one.
 fn receive<P: Proto, W: Wire, R: Wait>(rt: &R, socket: &Socket<P, W>, pass: &mut Pass<P, W>) -> bool
     requires { IsOf socket.now pass.old }
     ensures { IsOf socket.now pass.new }
@@ -147,7 +147,7 @@ fn receive<P: Proto, W: Wire, R: Wait>(rt: &R, socket: &Socket<P, W>, pass: &mut
     socket.try_recv(rt, pass, Ctx(0)).is_ok()
 }
 
-// Serves, and receives what is kept.
+// Serves, and receives a queued message.
 fn receives_now<P: Proto, W: Wire, R: Wait>(
     rt: &R,
     socket: &Socket<P, W>,
@@ -160,7 +160,7 @@ fn receives_now<P: Proto, W: Wire, R: Wait>(
     receive(rt, socket, pass)
 }
 
-// A turn that notes a link.
+// Takes a turn that notes a link.
 fn meets<P: Proto, W: Wire, R: Wait>(rt: &R, socket: &Socket<P, W>, pass: &mut Pass<P, W>) -> bool
     requires { IsOf socket.now pass.old }
     ensures { IsOf socket.now pass.new }
@@ -169,7 +169,7 @@ fn meets<P: Proto, W: Wire, R: Wait>(rt: &R, socket: &Socket<P, W>, pass: &mut P
     true
 }
 
-// Does it once; whether it came to what was wanted.
+// Does the work once, and returns whether it had the wanted result.
 fn once<P: Proto, W: Wire, R: Wait>(
     rt: &R,
     socket: &Socket<P, W>,
@@ -188,7 +188,7 @@ fn once<P: Proto, W: Wire, R: Wait>(
     }
 }
 
-// Does it so many times; how often it came to what was wanted.
+// Does the work `times` times, and returns how often it had the wanted result.
 fn many<P: Proto, W: Wire, R: Wait>(
     rt: &R,
     socket: &Socket<P, W>,
@@ -208,7 +208,7 @@ fn many<P: Proto, W: Wire, R: Wait>(
     done
 }
 
-// The same, and adds how often it came to what was wanted.
+// Does the work `times` times, and adds to `done` how often it had the wanted result.
 fn adds<P: Proto, W: Wire, R: Wait>(
     rt: &R,
     socket: &Socket<P, W>,
@@ -224,8 +224,8 @@ fn adds<P: Proto, W: Wire, R: Wait>(
     done.fetch_add(u64::from(count), Ordering::SeqCst);
 }
 
-/// Each of these callers does it so many times, each in a thread of its own where one can be made. Adds how often it
-/// came to what was wanted.
+/// Has each of these callers do the work `times` times, each in a thread of its own where one can be made. Adds to
+/// `done` how often it had the wanted result.
 pub fn by_all<P: Proto + Send, W: Wire + Send, R: Threads + Wait + Sync>(
     rt: &R,
     socket: &Socket<P, W>,

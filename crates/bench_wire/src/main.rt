@@ -15,7 +15,7 @@ use std::sync::Wait;
 use std::time::Clock;
 use test_wire::Tube;
 
-/// What came of a run.
+/// The result of a run.
 #[derive(Clone, Copy)]
 struct WireRun {
     messages: u32,
@@ -23,7 +23,7 @@ struct WireRun {
     writes: u64,
 }
 
-// Puts so many messages, and writes them all; whether it did.
+// Puts `count` messages and writes them all. Returns whether it did.
 #[tactic(auto, using(sp_msg::proofs::Shown::open_flushes))]
 fn fill<W: Wire, R: Wait>(
     alloc: Global,
@@ -48,7 +48,7 @@ fn fill<W: Wire, R: Wait>(
     }
 }
 
-// Pulls at most so many messages; how many came, and how many bytes.
+// Pulls at most `most` messages, and returns how many came and how many bytes they had.
 fn drain<W: Wire, R: Wait>(rt: &R, wire: &mut W, most: u32) -> (u32, u64)
     requires { (W.shown wire.old).is_open ≡ true }
 {
@@ -100,7 +100,7 @@ fn run<R: Wait>(
     }))
 }
 
-// Messages of so many bytes, of which so many go through. Whether all were written, and it could be printed.
+// Measures `count` messages of `size` bytes. Returns whether all were written, and it could be printed.
 fn measure<R: AllocGlobal + Clock + Eprint + Print + Wait>(
     rt: &R,
     size: usize,

@@ -27,7 +27,7 @@ length_more : {A : Type 0} (xs : List A) (x : A) → length (xs ++ x ∷ []) ≡
 length_more [] x = refl
 length_more (y ∷ xs) x = omega (arith, length_more xs x)
 
--- one was taken from so many
+-- one was taken from this many
 pub one_less : (xs ys : List PassView) (x : PassView) (n : ℕ) → xs ≡ ys ++ x ∷ [] → length xs ≡ n + 1 → length ys ≡ n
 one_less xs ys x n e h = omega (arith, ap (λ (zs : List PassView). length zs) e, length_more ys x, h)
 

@@ -1,4 +1,4 @@
--- What a finished socket says of what timed out, as a rule of each entry.
+-- What a finished socket shows about what timed out, as a rule of each entry.
 use Rattle.std.proofs.Common.{◌≡◌, inl, inr, refl, sym, subst, List, [], ◌∷◌, ℕ, Bool, true, false}
 use Rattle.std.specs.Prelude.{◌||◌, IsTrue}
 use Rattle.std.specs.List.{list_any}

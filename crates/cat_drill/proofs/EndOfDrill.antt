@@ -48,7 +48,7 @@ use Rattle.cat_drill.proofs.DrillWireReads.{same_lane}
 
 -- ---- The lane
 
--- later the pipe still is fed by that lane
+-- later the pipe is still fed by that lane
 pub fed_later : (pipe : ℕ) (lane : List ℕ) (p q : PassView) → Later p q → IsFedBy pipe lane p.seen → IsFedBy pipe lane q.seen
 fed_later pipe lane p q l f =
     record {
@@ -82,7 +82,7 @@ lane_is pipe lane out other seen whole t why w f c l d n =
 
 -- ---- All was given
 
--- all of the list holds of its last element
+-- what holds of the whole list holds of its last element
 pub at_last : {A : Type 0} (P : A → Type 0) (xs rest : List A) (x : A) → xs ≡ rest ++ x ∷ [] → All P xs → P x
 at_last {A = A} P xs rest x e a = go rest x (subst (All P) e a)
   where

@@ -1,4 +1,4 @@
--- What stands at the end of a drill's history.
+-- What holds at the end of a drill's history.
 use Rattle.std.proofs.Common.{◌≡◌, refl, ap, sym, ◌∙◌, subst, List, [], ◌∷◌, ◌++◌, ℕ, ◌+◌, ◌≤◌, Bool, true, false, cond, arith, rules, length, map, Option, Some}
 use Rattle.std.specs.Prelude.{◌==◌, find, not}
 use Rattle.std.proofs.lemmas.Bool.Decides.{nat_tests}
@@ -150,7 +150,7 @@ none_closed t h = cc
 pub summed : (z : Setting) (history : List (Turn Entry)) → z.role ≡ Pull → Legal z history → Summed (past_of history)
 summed z history role l = along z Summed (summed_step z role) [] history (record { tally = record { receives = tt; won = refl; frames_are = refl }; closes = none_closed }) l
 
--- ---- Where as many messages were given as frames came from one pipe and from all, these are the frames
+-- ---- Where the number of messages given is that of the frames from one pipe and from all, these are the frames
 
 arrived_most : (z : Setting) (past : List Entry) → length (arrived z past) ≤ frame_total past
 arrived_most z [] = omega arith

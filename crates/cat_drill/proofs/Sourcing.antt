@@ -1,4 +1,4 @@
--- One value more in the lane.
+-- One more value in the lane.
 use Rattle.std.proofs.Common.{◌≡◌, refl, ap, sym, ◌∙◌, subst, List, [], ◌∷◌, ◌++◌, ℕ, ◌+◌, ◌%◌, ◌^◌, suc, false}
 use Rattle.std.specs.List.{sum}
 use Rattle.std.specs.Int.{w64, to_be_bytes}
@@ -33,6 +33,6 @@ source_more old now m s d header body is total_is count_is =
       total_is = total_is ∙ ap (λ (n : ℕ). (old.total + n) % 2 ^ 64) value_next ∙ total_next old.total old.count s.total_is ∙ ap (λ (n : ℕ). sum (values n) % 2 ^ 64) (sym count_is);
     }
 
--- a put that found the lane full leaves it as it was
+-- a put that found the lane full leaves it unchanged
 pub source_same : (old : DrillSource) (lane : InView) → lane ≡ old.lane → IsSource old → IsSource (record old { lane = lane })
 source_same old lane e s = subst (λ (x : InView). IsSource (record old { lane = x })) (sym e) s

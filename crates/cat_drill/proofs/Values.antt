@@ -1,4 +1,4 @@
--- The values of the generator, one after the other.
+-- The values of the generator, one after another.
 use Rattle.std.proofs.Common.{◌≡◌, refl, ap, ◌∙◌, List, [], ◌∷◌, ◌++◌, ℕ, ◌+◌, ◌%◌, ◌^◌, suc, zero, arith, length, map}
 use Rattle.std.specs.List.{sum}
 use Rattle.std.specs.Int.{w64, to_be_bytes}
@@ -38,6 +38,6 @@ length_bodies n = go 0 n
     go x zero = refl
     go x (suc n) = omega (arith, go (next_value x) n)
 
--- the sum of one value more, modulo 2^64
+-- the sum of one more value, modulo 2^64
 pub total_next : (total n : ℕ) → total ≡ sum (values n) % 2 ^ 64 → (total + next_value (value_after 0 n)) % 2 ^ 64 ≡ sum (values (suc n)) % 2 ^ 64
 total_next total n h = rw (h, sum_next n) (omega arith)

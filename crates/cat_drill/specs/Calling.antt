@@ -1,4 +1,4 @@
--- What callers of a drill's socket keep.
+-- What holds of the callers of a drill's socket.
 use Rattle.std.specs.Prelude.{◌≡◌, ◌≢◌, ◌++◌, List, [], ◌∷◌, Option, Some, None}
 use Rattle.turn_lock.specs.History.{StartsWith}
 use Rattle.sp_base.specs.declared.OpName.{OpName}
@@ -6,7 +6,7 @@ use Rattle.sp_socket.specs.Passes.{SocketName, PassView, IsSamePass, label_with}
 use Rattle.sp_socket.specs.Open.{IsOpenFor, AreOpenFor, KeepsOpen}
 use Rattle.cat_play.specs.Drilling.{drill_setting}
 
--- the pass is of the socket, which is one of a drill
+-- the pass belongs to the socket, which is a drill's
 abbrev pub IsDrillPass : SocketName → PassView → Type 0
 IsDrillPass s p = (p.lock ≡ Some s.lock) × (p.label ≡ Some (label_with s drill_setting)) × (s.words.slots ≡ 256) × (s.words.callers ≡ 4)
 
@@ -15,14 +15,14 @@ pub record Calls (s : SocketName) (p : PassView) (ops : List OpName) : Type 0 wh
   pub own : IsDrillPass s p
   pub open_ : AreOpenFor p ops
 
--- all four passes are of the socket, and these operations are open for the first
+-- all four passes belong to the socket, and these operations are open for the first
 pub record AreFourCallers (s : SocketName) (p q r t : PassView) (ops : List OpName) : Type 0 where
   pub main : Calls s p ops
   pub two : IsDrillPass s q
   pub three : IsDrillPass s r
   pub four : IsDrillPass s t
 
--- what it had seen stands at the head of what it has seen
+-- what it had seen is a prefix of what it has seen
 abbrev pub Later : PassView → PassView → Type 0
 Later before after = StartsWith after.seen before.seen
 

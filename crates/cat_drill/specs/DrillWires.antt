@@ -14,12 +14,12 @@ pub record IsDrillWire (w : LaneWireView) (lost : Bool) : Type 0 where
   pub name : w.wire.name ≡ OverLanes w.out.name w.inp.name
   pub came : lost ≡ false → w.wire.came ≡ Some (texts w.inp.taken)
 
--- the last of so many values behind this one
+-- the last of that many values after this one
 abbrev pub value_after : ℕ → ℕ → ℕ
 value_after x zero = x
 value_after x (suc n) = value_after (next_value x) n
 
--- the first values are in the lane or were taken from it, and it knows the last of them and their sum
+-- the first values are in the lane or were taken from it, and the source knows the last of them and their sum
 pub record IsSource (s : DrillSource) : Type 0 where
   pub begun : has_end s.lane.put ≡ false
   pub texts_are : texts s.lane.put ≡ bodies s.count

@@ -28,7 +28,7 @@ pub record IsFedBy (pipe : ℕ) (lane : List ℕ) (seen : List (Turn Entry)) : T
   pub name : name_of (past_of start) pipe ≡ Some (numbers_of (OverLanes out lane))
   pub known : pipe ≤ ups (past_of start)
 
--- the list is that of the socket, and its passes are out
+-- the list belongs to the socket, and its passes are handed out
 pub record IsOut (s : SocketName) (l : ListView) : Type 0 where
   pub items : l.items ≡ []
   pub callers : l.callers ≡ 4
@@ -42,7 +42,7 @@ pub record ClosesWith (totals : Totals) (seen whole : List (Turn Entry)) : Type 
   pub starts : StartsWith early seen
   pub totals_are : closed_totals (past_of early) ≡ Some totals
 
--- nothing is left in the lane, so many were put, and the socket has given as many, of as many frames
+-- nothing is left in the lane, `count` messages were put, and the socket has given as many, of as many frames
 pub record IsWhole (left put : ℕ) (totals : Totals) (count : ℕ) : Type 0 where
   pub none_left : left ≡ 0
   pub all_put : put ≡ count
@@ -58,13 +58,13 @@ pub record CameFrom (pipe : ℕ) (lane : OutView) (past : List Entry) : Type 0 w
   pub out : List ℕ
   pub name : wire.name ≡ OverLanes out lane.name
 
--- what was printed of the lines of so many messages: all, a prefix of them where the put failed, or nothing
+-- what was printed of the lines of that many messages: all, a prefix of them where the put failed, or nothing
 abbrev pub Prints : Status → ℕ → SinkView → SinkView → Type 0
 Prints status.Done n old new = new.text ≡ grown old.text (lines n)
 Prints status.OutFault n old new = ((piece : List ℕ) × IsCutShort (lines n ∷ []) piece × (new.text ≡ grown old.text piece)) × Rose old.faults new.faults
 Prints status.NoMemory n old new = new ≡ old
 Prints _ n old new = ⊥
 
--- what became of a drill, whatever the net, the files and the pace are, none of which it has
+-- the result of a drill, for any net, files and pace, none of which it uses
 abbrev pub EndsDrill : Status → ℕ → Option (List (Turn Entry)) → SinkView → SinkView → Type 0
 EndsDrill s n record_ old new = (net : NetView) (files : FilesView) (pace : PaceView) → RunsDrill s n record_ (world net files pace old) (world net files pace new)

@@ -10,7 +10,7 @@ use sp_proto::Proto;
 use sp_socket::{Collected, Op, Outcome, Pass, Socket};
 use std::sync::Wait;
 
-/// Begins a receive. None only where it is refused.
+/// Begins a receive. Returns `None` only where it is refused.
 pub fn begin_one<P: Proto, W: Wire, R: Wait>(
     rt: &R,
     socket: &Socket<P, W>,
@@ -35,7 +35,7 @@ pub fn serve_one<P: Proto, W: Wire, R: Wait>(rt: &R, socket: &Socket<P, W>, pass
     socket.serve(rt, pass);
 }
 
-/// The moment comes.
+/// Ticks at this moment.
 pub fn tick_one<P: Proto, W: Wire, R: Wait>(
     rt: &R,
     socket: &Socket<P, W>,
@@ -77,7 +77,7 @@ fn is_received(outcome: Outcome) -> bool {
     }
 }
 
-/// Collects the operation. One that has not ended is cancelled first. Whether it got a message.
+/// Collects the operation. One that has not ended is cancelled first. Returns whether it got a message.
 pub fn collect_one<P: Proto, W: Wire, R: Wait>(
     rt: &R,
     socket: &Socket<P, W>,

@@ -11,11 +11,11 @@ use sp_msg::{Message, Room, Wire, WireFlush, WireIn};
 use std::marker::Model;
 use std::sync::Wait;
 
-/// A wire over two lanes that knows whether a message was lost.
+/// A wire over two lanes that records whether a message was lost.
 #[derive(Drop)]
 pub struct DrillWire {
     wire: LaneWire,
-    /// A message was taken and lost when out of memory.
+    /// Whether a message was taken and lost when out of memory.
     lost: bool,
 }
 

@@ -1,4 +1,4 @@
-//! The end of a drill: the socket is closed, and what it has done is looked at.
+//! The end of a drill: the socket is closed, and what it has done is checked.
 ghost use Rattle.std.specs.Prelude.{◌≡◌, ◌≤◌, ◌%◌, ◌^◌, ◌∷◌, ◌++◌, [], List, true, Some, IfSome};
 ghost use Rattle.std.specs.List.{sum as list_sum};
 ghost use Rattle.turn_lock.specs.declared.turn.Turn.{Turn};
@@ -76,7 +76,7 @@ pub fn close_all<P: Proto, W: Wire, R: Wait>(
     }
 }
 
-/// Spends the wires.
+/// Drops the wires.
 pub fn drop_all<W: Drop, R: Wait>(rt: &R, mut wires: WireList<W>) {
     for _ in rt.forever() {
         if wires.pop().is_none() {
@@ -105,14 +105,14 @@ fn take_lane<R: Wait>(rt: &R, wires: WireList<DrillWire>, pipe: PipeId) -> Optio
     drill_wire.into_lane()
 }
 
-// Whether nothing is left in the lane, and so many were put, came and were given.
+// Returns whether nothing is left in the lane, and `count` messages were put, came and were given.
 fn is_whole(left: u64, put: u32, totals: Totals, count: u32) -> bool
     ensures { result ≡ true → IsWhole left put totals count }
 {
     left == 0 && put == count && totals.won == count as u64 && totals.frames == count as u64
 }
 
-/// The sum of the values, where so many were put, came and were given. Else there was no memory.
+/// The sum of the values, where all that were put came and were given. Otherwise there was no memory.
 pub fn sum_of_all<R: Wait>(
     rt: &R,
     wires: WireList<DrillWire>,

@@ -3,10 +3,10 @@
 //!
 //! `source` has the values and the lane that they are put in, `drill_wire` the wire over that lane, `rounds` the
 //! receives of a round. The main caller puts the values, begins the receives and collects them. While no task runs it
-//! has the pass of the first task. No round keeps what was given, nor more than that its callers' passes stay what they
-//! are, that the source knows what was put, and the wire whether a message was lost.
+//! has the pass of the first task. No round records what was given. What holds between rounds is only that the callers'
+//! passes stay theirs, that the source knows what was put, and that the wire records whether a message was lost.
 //!
-//! What came through the lane is known by what its two ends say when they are joined, what was given by the history of
+//! What came through the lane follows from its two ends when they are joined, and what was given from the history of
 //! the socket and its totals (`ending`, `run`).
 #![tactic(auto)]
 

@@ -1,4 +1,4 @@
-//! The parts of a drill, for whoever looks at one round by itself.
+//! The parts of a drill, for tests of one round.
 pub use crate::drill_wire::DrillWire;
 pub use crate::ending::{Closed, close_all, drop_all};
 pub use crate::rounds::{begin_all, collect_all, contend, rounds};

@@ -14,10 +14,10 @@ use std::alloc::Global;
 use std::sync::Wait;
 use std::thread::Threads;
 
-/// How many receives are begun in a round.
+/// The number of receives that are begun in a round.
 const RECEIVES: u32 = 96;
 
-// One operation more. Where there is no memory for it, it is collected at once.
+// Holds one more operation. Where there is no memory for it, it is collected at once.
 fn hold<P: Proto, W: Wire, R: Wait>(
     rt: &R,
     socket: &Socket<P, W>,
@@ -38,7 +38,7 @@ fn hold<P: Proto, W: Wire, R: Wait>(
     }
 }
 
-// Begins a receive, and holds it; returns its name.
+// Begins a receive, and holds it. Returns its name.
 fn begin_held<P: Proto, W: Wire, R: Wait>(
     rt: &R,
     socket: &Socket<P, W>,
@@ -59,7 +59,7 @@ fn begin_held<P: Proto, W: Wire, R: Wait>(
     }
 }
 
-// The receive at this place of a round: an odd one with the deadline, an even one among the names.
+// Begins the receive at this place of a round: an odd one with the deadline, an even one among the names.
 fn begin_next<P: Proto, W: Wire, R: Wait>(
     rt: &R,
     socket: &Socket<P, W>,
@@ -82,7 +82,8 @@ fn begin_next<P: Proto, W: Wire, R: Wait>(
     }
 }
 
-/// Begins the receives of a round: 96, the odd ones with the deadline, the even ones named. Whether all were begun.
+/// Begins the receives of a round: 96, the odd ones with the deadline, the even ones named. Returns whether all were
+/// begun.
 pub fn begin_all<P: Proto, W: Wire, R: Wait>(
     rt: &R,
     socket: &Socket<P, W>,
@@ -103,7 +104,7 @@ pub fn begin_all<P: Proto, W: Wire, R: Wait>(
     true
 }
 
-// Collects the last of the operations that are held. Whether it got a message; none where none is held.
+// Collects the last of the operations that are held. Returns whether it got a message, or `None` where none is held.
 fn collect_last<P: Proto, W: Wire, R: Wait>(
     rt: &R,
     socket: &Socket<P, W>,
@@ -121,7 +122,7 @@ fn collect_last<P: Proto, W: Wire, R: Wait>(
     }
 }
 
-/// Collects all that are held. How many messages they got.
+/// Collects all that are held. Returns how many messages they got.
 pub fn collect_all<P: Proto, W: Wire, R: Wait>(
     rt: &R,
     socket: &Socket<P, W>,
@@ -158,7 +159,7 @@ fn give_on<P: Proto, W: Wire, R: Wait>(
     collect_one(rt, socket, pass, op)
 }
 
-// Receives one message, alone. Whether one came.
+// Receives one message. Returns whether one came.
 fn give_one<P: Proto, W: Wire, R: Wait>(
     rt: &R,
     socket: &Socket<P, W>,
@@ -174,7 +175,7 @@ fn give_one<P: Proto, W: Wire, R: Wait>(
     }
 }
 
-// Receives so many messages, one at a time. Whether all came.
+// Receives `left` messages, one at a time. Returns whether all came.
 fn give_rest<P: Proto, W: Wire, R: Wait>(
     rt: &R,
     socket: &Socket<P, W>,
@@ -193,8 +194,8 @@ fn give_rest<P: Proto, W: Wire, R: Wait>(
     true
 }
 
-/// The first half of a round: its receives are begun and held, and the four tasks work on them at once. Whether all
-/// were begun.
+/// The first half of a round: its receives are begun and held, and the four tasks work on them at once. Returns whether
+/// all were begun.
 pub fn contend<P: Proto + Send, W: Wire + Send, G: Gate + Sync, R: Wait + Threads + Sync>(
     rt: &R,
     alloc: Global,
@@ -215,7 +216,7 @@ pub fn contend<P: Proto + Send, W: Wire + Send, G: Gate + Sync, R: Wait + Thread
     (four_callers, begun)
 }
 
-// A round in which so many messages are to be given. Whether they were.
+// Takes a round in which `messages` messages are to be given. Returns whether they were.
 fn round<P: Proto + Send, W: Wire + Send, G: Gate + Sync, R: Wait + Threads + Sync>(
     rt: &R,
     alloc: Global,
@@ -238,7 +239,7 @@ fn round<P: Proto + Send, W: Wire + Send, G: Gate + Sync, R: Wait + Threads + Sy
     (four_callers, begun & all)
 }
 
-/// Goes round until so many messages were put and given, or one of them was not.
+/// Takes rounds until `count` messages were put and given, or one of them was not.
 pub fn rounds<P: Proto + Send, W: Wire + Send, G: Gate + Sync, R: Wait + Threads + Sync>(
     rt: &R,
     alloc: Global,

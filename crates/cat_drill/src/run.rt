@@ -29,7 +29,7 @@ use std::alloc::Global;
 use std::sync::Wait;
 use std::thread::Threads;
 
-/// How many messages the lane holds.
+/// The capacity of the lane, in messages.
 const LANE: u32 = 64;
 
 /// What a drill returns (nngcat(1)).
@@ -37,7 +37,7 @@ const LANE: u32 = 64;
 pub struct DrillEnd {
     /// Why it ended: `Done`, `OutFault` or `NoMemory`.
     pub status: Status,
-    /// The history of its socket; none where there was no memory to open one.
+    /// The history of its socket; `None` where there was no memory to open one.
     pub record_: Option<Record>,
 }
 
@@ -169,7 +169,7 @@ struct OpenedDrill {
     drill_wire: DrillWire,
 }
 
-// The same once its pipe is up and its callers have their passes.
+// The same, once its pipe is up and its callers have their passes.
 struct JoinedDrill {
     socket: Socket<Pull, DrillWire>,
     list: SocketPasses<Pull, DrillWire>,
@@ -178,7 +178,7 @@ struct JoinedDrill {
     pipe: PipeId,
 }
 
-// The drill on a socket whose pipe is up.
+// Runs the drill on a socket whose pipe is up.
 fn play<R: AllocGlobal + Wait + Threads + Sync, G: Gate + Sync, S: Sink>(
     rt: &R,
     joined: JoinedDrill,
@@ -212,7 +212,7 @@ fn play<R: AllocGlobal + Wait + Threads + Sync, G: Gate + Sync, S: Sink>(
     conclude(alloc, out, count, record_, total)
 }
 
-// The drill on a socket that was opened.
+// Runs the drill on a socket that was opened.
 fn drill_on<R: AllocGlobal + Wait + Threads + Sync, G: Gate + Sync, S: Sink>(
     rt: &R,
     opened: OpenedDrill,
@@ -259,7 +259,7 @@ fn drill_on<R: AllocGlobal + Wait + Threads + Sync, G: Gate + Sync, S: Sink>(
     }
 }
 
-/// Sends so many messages, 1 to 1,000,000, through a lane of 64 to a pull socket of 256 slots and 4 callers, round by
+/// Sends `count` messages, 1 to 1,000,000, through a lane of 64 to a pull socket of 256 slots and 4 callers, round by
 /// round: four tasks in threads of their own serve, cancel and let expire what one caller has begun. Prints how many
 /// were given, the sum of their values, and how many operations have no end. Out of memory ends it early.
 pub fn drill<R: AllocGlobal + Wait + Threads + Sync, G: Gate + Sync, S: Sink>(

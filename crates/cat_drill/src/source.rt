@@ -8,7 +8,7 @@ use sp_msg::Message;
 use std::alloc::Global;
 use std::sync::Wait;
 
-/// The most messages that are put in one round.
+/// The maximum number of messages that are put in one round.
 const MOST: u32 = 64;
 
 /// The end at which messages are put, and what was put there.
@@ -19,7 +19,7 @@ pub struct DrillSource {
     pub value: u64,
     /// The sum of the values, modulo 2^64.
     pub total: u64,
-    /// How many there are.
+    /// The number of values.
     pub count: u32,
 }
 
@@ -31,7 +31,7 @@ fn added(total: u64, value: u64) -> u64
 }
 
 impl DrillSource {
-    // Puts the next value, if the lane isn't full. Whether it was put.
+    // Puts the next value, if the lane isn't full. Returns whether it was put.
     fn put_one<R: Wait>(&mut self, rt: &R, alloc: Global) -> Result<bool, NoMemory>
         requires source { IsSource self.old }
         requires few { self.old.count < 1000000 }
@@ -52,7 +52,7 @@ impl DrillSource {
         }
     }
 
-    // Puts at most 64 values more, and at most so many in all.
+    // Puts at most 64 more values, and at most `count` in all.
     fn put_some<R: Wait>(&mut self, rt: &R, alloc: Global, count: u32) -> Result<(), NoMemory>
         requires source { IsSource self.old }
         requires count { count ≤ 1000000 }
@@ -67,7 +67,7 @@ impl DrillSource {
         Ok(())
     }
 
-    /// Puts the values of one round. How many were put; none where all are put, or there was no memory.
+    /// Puts the values of one round. Returns how many were put, or `None` where all are put or there was no memory.
     pub fn put_next<R: Wait>(&mut self, rt: &R, alloc: Global, count: u32) -> Option<u32>
         requires source { IsSource self.old }
         requires count { count ≤ 1000000 }

@@ -12,7 +12,7 @@ use sp_socket::{Pass, Socket};
 use std::sync::Wait;
 use std::thread::{self, Threads};
 
-/// What each task of a drill goes through first. Tests hold tasks here.
+/// What each task of a drill goes through first. Tests can hold tasks here.
 pub trait Gate {
     /// Lets the task with this number through, from 1 to 4.
     fn pass(&self, task: u32);
@@ -35,8 +35,7 @@ fn task_at(i: usize) -> u32 {
     }
 }
 
-/// The task at this place, from 0: the first two serve, the third cancels, the last lets the moment come. It passes the
-/// gate first.
+/// The task at this place, from 0: the first two serve, the third cancels, the last ticks. It passes the gate first.
 pub fn work<P: Proto, W: Wire, G: Gate, R: Wait>(
     rt: &R,
     socket: &Socket<P, W>,
@@ -66,7 +65,7 @@ pub struct FourCallers<P: Proto, W: Wire> {
     pub four: Pass<P, W>,
 }
 
-// Each task in a thread of its own, where one can be made.
+// Runs each task in a thread of its own, where one can be made.
 fn in_threads<P: Proto + Send, W: Wire + Send, G: Gate + Sync, R: Wait + Threads + Sync>(
     rt: &R,
     socket: &Socket<P, W>,
@@ -89,7 +88,7 @@ fn in_threads<P: Proto + Send, W: Wire + Send, G: Gate + Sync, R: Wait + Threads
     );
 }
 
-/// All four tasks at once. They are joined.
+/// Runs all four tasks at once, and joins them.
 pub fn all_work<P: Proto + Send, W: Wire + Send, G: Gate + Sync, R: Wait + Threads + Sync>(
     rt: &R,
     socket: &Socket<P, W>,

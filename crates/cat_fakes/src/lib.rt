@@ -1,4 +1,4 @@
-//! A run of nngcat over an outside in memory: what is outside of it, and what it came to, for tests to compare.
+//! A run of nngcat over an outside in memory: its outside, and its result, for tests to compare.
 #![tactic(auto)]
 
 ghost use Rattle.std.specs.Prelude.{◌≡◌, IfOk};
@@ -12,7 +12,7 @@ use std::alloc::Global;
 use std::sync::Wait;
 use std::thread::Threads;
 
-/// How many turns the pace of a test has, a millisecond apart.
+/// The number of turns of a test's pace, a millisecond apart.
 pub const TURNS: u64 = 200;
 
 /// The greeting of a push socket.
@@ -31,10 +31,10 @@ pub const PULL: &[&str] = &[
     "1",
 ];
 
-/// Takes all that is written at once.
+/// More bytes than any write: a link with this limit takes all at once.
 pub const ALL: usize = 1_000_000;
 
-/// A link that gives these pieces, and then nothing for ever, or the end; it takes so many bytes at a write.
+/// A link that gives these pieces, and then nothing forever, or the end; it takes at most that many bytes at a write.
 pub fn link_of(
     alloc: Global,
     pieces: &[&[u8]],
@@ -53,7 +53,7 @@ pub fn link_of(
     Ok(MemLink::new(alloc, script, take, Vec::new(alloc)))
 }
 
-/// A link that gives these bytes one at a time, and then nothing for ever.
+/// A link that gives these bytes one at a time, and then nothing forever.
 pub fn trickle(alloc: Global, texts: &[&[u8]]) -> Result<MemLink, NoMemory>
     ensures { IfOk result (λ link. link_view link ≡ unread_at 0 schemes.Tcp) }
 {
@@ -91,8 +91,8 @@ pub fn words(alloc: Global, texts: &[&str]) -> Result<Vec<String>, NoMemory> {
     Ok(list)
 }
 
-/// What is outside of a run: the links that come at its listens and those that its dials get, one list for each; which
-/// calls of the net and of the sink fail; how many turns the pace has, and how many milliseconds apart.
+/// The outside of a run: the links that come at its listens and those that its dials get, one list for each; the calls
+/// of the net and of the sink that fail; the number of turns of the pace, and how many milliseconds they are apart.
 #[derive(Drop)]
 pub struct Outside {
     pub incoming: Vec<Vec<MemLink>>,
@@ -135,8 +135,8 @@ pub fn outgoing(alloc: Global, links: Vec<MemLink>) -> Result<Outside, NoMemory>
     })
 }
 
-/// What a run came to: its status, whether it has a record, what was printed, what was written on the first link and on
-/// the second, how many links were handed out, and how many turns are left.
+/// The result of a run: its status, whether it has a record, what was printed, what was written on the first link and
+/// on the second, how many links were handed out, and how many turns are left.
 #[derive(Drop)]
 pub struct Came {
     pub status: Status,
@@ -148,7 +148,7 @@ pub struct Came {
     pub left: u64,
 }
 
-// What was written on the link that was given back with this place; nothing where none was.
+// What was written on the link that was given back with this place; nothing where there was none.
 fn written_on(alloc: Global, net: &MemNet, place: u32) -> Result<Vec<u8>, NoMemory> {
     match net.returned(place) {
         Some(link) => Ok(Vec::from_slice(alloc, link.written())?),
@@ -195,7 +195,7 @@ pub fn play<R: AllocGlobal + Wait + Threads + Sync>(
     })
 }
 
-/// A pull of one message over one link that takes any length.
+/// Plays a pull of one message over one link that takes any length.
 pub fn one<R: AllocGlobal + Wait + Threads + Sync>(
     rt: &R,
     pieces: &[&[u8]],
@@ -204,7 +204,7 @@ pub fn one<R: AllocGlobal + Wait + Threads + Sync>(
     taking(rt, pieces, ends, ALL)
 }
 
-/// A pull of one message over one link that takes so many bytes at a write.
+/// Plays a pull of one message over one link that takes at most that many bytes at a write.
 pub fn taking<R: AllocGlobal + Wait + Threads + Sync>(
     rt: &R,
     pieces: &[&[u8]],
@@ -214,7 +214,7 @@ pub fn taking<R: AllocGlobal + Wait + Threads + Sync>(
     over_one(rt, PULL, link_of(rt.alloc(), pieces, ends, take)?)
 }
 
-/// These words over one link that comes.
+/// Plays these words over one link that comes.
 pub fn over_one<R: AllocGlobal + Wait + Threads + Sync>(
     rt: &R,
     texts: &[&str],
@@ -226,7 +226,7 @@ pub fn over_one<R: AllocGlobal + Wait + Threads + Sync>(
     play(rt, texts, incoming(alloc, links)?)
 }
 
-/// A pull of one message over two links, the second of which gives a good greeting and the message `later`.
+/// Plays a pull of one message over two links, the second of which gives a good greeting and the message `later`.
 pub fn followed<R: AllocGlobal + Wait + Threads + Sync>(
     rt: &R,
     first: MemLink,
@@ -243,7 +243,7 @@ pub fn followed<R: AllocGlobal + Wait + Threads + Sync>(
     play(rt, PULL, incoming(alloc, links)?)
 }
 
-/// The words over no link.
+/// Plays the words over no link.
 pub fn unlinked<R: AllocGlobal + Wait + Threads + Sync>(
     rt: &R,
     texts: &[&str],

@@ -1,4 +1,4 @@
--- What a plan says of its play.
+-- The play of a plan.
 use Rattle.std.specs.Prelude.{◌≡◌, ℕ, List, Option, Some, None}
 use Rattle.sp_base.specs.Views.{FilesView}
 use Rattle.sp_base.specs.Steps.{Holds}
@@ -19,7 +19,7 @@ pub record Play : Type 0 where
   pub send_timeout : Option ℕ
   pub format : Format
 
--- what the sends carry: the text, or what is told to stand under the name of the file
+-- what the sends carry: the text, or what the file of that name is told to hold
 abbrev pub IsBodyOf : Data → FilesView → Option (List ℕ) → Type 0
 IsBodyOf datas.None files body = body ≡ None
 IsBodyOf (datas.Text text) files body = body ≡ Some text

@@ -1,4 +1,4 @@
--- What a run of nngcat comes to: its statuses with their causes, and its record.
+-- The results of a run of nngcat: its statuses with their causes, and its record.
 use Rattle.std.specs.Prelude.{◌≡◌, ◌≢◌, ◌⊎◌, ◌≤◌, ◌<◌, ℕ, true, false, Bool, IsTrue, ⊤, List, [], ◌∷◌, ◌++◌, Option, Some, None}
 use Rattle.std.specs.FinMap.{get}
 use Rattle.turn_lock.specs.declared.turn.Turn.{Turn}
@@ -35,7 +35,7 @@ use Rattle.sp_ends.specs.LinkRecords.{lane_place, place_of, Records, max_body, A
 use Rattle.cat_play.specs.Spending.{Spends, EndsInTime}
 use Rattle.cat_play.specs.Drilling.{lines, Drills, GivesAll}
 
--- what is outside of a run
+-- the outside of a run
 pub record World : Type 0 where
   pub net : NetView
   pub files : FilesView
@@ -85,7 +85,7 @@ pub record Untried (old new : World) : Type 0 where
   pub pace : new.pace ≡ old.pace
   pub sink : new.sink ≡ old.sink
 
--- the pace has said that no turn is left exactly where the run ends so
+-- the pace has returned that no turn is left exactly where the run ends for that
 pub record PacedBy (s : Status) (old new : World) : Type 0 where
   pub over : s ≡ status.Over → (new.pace.left ≡ 0) × (new.pace.is_over ≡ true)
   pub not_over : ¬ (s ≡ status.Over) → new.pace.is_over ≡ old.pace.is_over
@@ -98,7 +98,7 @@ pub record FilesBy (data_ : Data) (old new : World) : Type 0 where
 
 -- ---- The record
 
--- all of these texts, or a prefix of the last in its place
+-- all of these texts, or a prefix of the last one in its place
 abbrev pub IsCutShort : List (List ℕ) → List ℕ → Type 0
 IsCutShort ts piece = (piece ≡ joined ts)
     ⊎ ((before : List (List ℕ)) × (last : List ℕ) × (prefix : List ℕ) × (ts ≡ before ++ last ∷ []) × IsPrefix prefix last × (piece ≡ joined before ++ prefix))
@@ -124,7 +124,7 @@ pub record Runs (ways : Ways) (s : Status) (plan : CatPlan) (play : Play) (dice 
   -- out of memory for a link ends the run
   pub memory : has_dry_miss (past_of record_) ≡ true → s ≡ status.NoMemory
 
--- what became of a plan: no socket was opened, or this is its record
+-- the result of a plan: no socket was opened, or this is its record
 abbrev pub RunsPlan : Ways → Status → CatPlan → ℕ → Option (List (Turn Entry)) → World → World → Type 0
 RunsPlan ways s plan dice None old new = UnopenedFor s old new × Untried old new
 RunsPlan ways s plan dice (Some record_) old new = (play : Play) × IsPlayOf plan old.files play × Runs ways s plan play dice record_ old new
@@ -141,7 +141,7 @@ EndsPlan s plan dice None old new = ⊤
 EndsPlan s plan dice (Some record_) old new =
     (play : Play) → IsPlayOf plan old.files play → EndsInTime (is_called_off s) (run_setting plan.role dice) play record_ old.net new.net
 
--- what became of a drill: the three lines at its end, a prefix of them where a put failed or it was out of memory, and
+-- the result of a drill: the three lines at its end, a prefix of them where a put failed or it was out of memory, and
 -- no other status
 abbrev pub DrillsTo : Status → ℕ → List (Turn Entry) → World → World → Type 0
 DrillsTo status.Done n record_ old new = (new.sink.text ≡ grown old.sink.text (lines n)) × GivesAll n record_
@@ -153,14 +153,14 @@ abbrev pub RunsDrill : Status → ℕ → Option (List (Turn Entry)) → World �
 RunsDrill s n None old new = (s ≡ status.NoMemory) × (new.sink ≡ old.sink)
 RunsDrill s n (Some record_) old new = Drills record_ × DrillsTo s n record_ old new
 
--- what became of words with a plan
+-- the result of words with a plan
 abbrev pub RunsAs : (CatPlan → Ways) → Status → Plan → ℕ → Option (List (Turn Entry)) → World → World → Type 0
 RunsAs ways s (plans.Cat plan) dice record_ old new =
     RunsPlan (ways plan) s plan dice record_ old new × FilesBy plan.data_ old new
 RunsAs ways s (plans.Drill count) dice record_ old new =
     RunsDrill s count record_ old new × (new.net ≡ old.net) × (new.files ≡ old.files) × (new.pace ≡ old.pace)
 
--- what became of words without one
+-- the result of words without a plan
 pub record RunsNothing (record_ : Option (List (Turn Entry))) (old new : World) : Type 0 where
   pub no_record : record_ ≡ None
   pub untried : Untried old new

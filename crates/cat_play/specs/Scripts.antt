@@ -20,7 +20,7 @@ use Rattle.sp_history.specs.Found.{act_of, end_of}
 use Rattle.cat_play.specs.Plans.{Play}
 use Rattle.cat_text.specs.Printing.{print}
 
--- ---- What stands in a record
+-- ---- What is in a record
 
 -- the entries before the close
 abbrev pub open_part : List Entry → List Entry
@@ -89,9 +89,9 @@ is_receive_next z play past = receives_next play.role (is_some play.body) (asks_
 
 -- ---- What counts
 
--- The table of what counts, at its collecting. The flags say whether the plan has data, and whether after it no survey is
--- live: a message that was received; a send of a play that only sends; the reply of a req; a survey that is found over; of
--- a rep or respondent a message, or with data the reply to it
+-- The table of what counts, at its collecting. The flags say whether the plan has data, and whether no survey is live
+-- after it: a message that was received; a send of a play that only sends; the reply of a req; a survey that is found
+-- over; for a rep or respondent a message, or with data the reply to it
 abbrev pub counts_for : Role → Bool → Bool → Option Ending → Bool
 counts_for Surveyor has_data over (Some (Won r)) = over
 counts_for Surveyor has_data over (Some (Gone SurveyOver by)) = true
@@ -132,7 +132,7 @@ texts_in play (_ ∷ past) = texts_in play past
 abbrev pub texts : Play → List Entry → List (List ℕ)
 texts play past = texts_in play (open_part past)
 
--- one text after the other
+-- one text after another
 abbrev pub joined : List (List ℕ) → List ℕ
 joined ts = flat_map (λ t. t) ts
 
@@ -146,7 +146,7 @@ abbrev pub has_reached : Option ℕ → ℕ → Bool
 has_reached None n = false
 has_reached (Some count) n = nat_le count n
 
--- the operation ended with its deadline
+-- the operation timed out
 abbrev pub is_timed_out : Option Ending → Bool
 is_timed_out (Some (Gone TimedOut by)) = true
 is_timed_out _ = false
@@ -157,7 +157,7 @@ is_kind receives None = false
 is_kind receives (Some Recv) = receives
 is_kind receives (Some (Send m)) = not receives
 
--- a receive (or, where the flag is false, a send) ended with its deadline, and was collected
+-- a receive (or, where the flag is false, a send) timed out, and was collected
 abbrev pub timed_out_in : Bool → List Entry → Bool
 timed_out_in receives [] = false
 timed_out_in receives (Took op k ∷ past) =

@@ -40,7 +40,7 @@ listens_of es = length (filter is_linked_listen es)
 abbrev pub dials_of : List End → ℕ
 dials_of es = length (filter is_linked_dial es)
 
--- the ticks but the last at which it was so
+-- the number of ticks, without the last, at which there was room
 abbrev pub roomy_ticks : List Entry → ℕ
 roomy_ticks past = ticks_where has_room (before_last_tick past)
 
@@ -56,19 +56,20 @@ AreApart [] = ⊤
 AreApart (a ∷ []) = ⊤
 AreApart (a ∷ b ∷ rest) = (a + 100 ≤ b) × AreApart (b ∷ rest)
 
--- the longest list of ticks but the last, in order, each at least 100 above the one before it
+-- the longest list of ticks except the last, in order, each at least 100 above the one before it
 pub record AreTries (past : List Entry) (tries : List ℕ) : Type 0 where
   pub thinned : IsThinned tries (ticks (before_last_tick past))
   pub apart : AreApart tries
   pub longest : (others : List ℕ) → IsThinned others (ticks (before_last_tick past)) → AreApart others → length others ≤ length tries
 
--- how often a dialer tried at least: as long as no link was opened at each of the tries; else once, where there are two
--- ticks
+-- how often a dialer tried at least: as long as no link was opened, at each of the tries; otherwise once, where there
+-- are two ticks
 abbrev pub TriedAtLeast : Bool → List Entry → ℕ → Type 0
 TriedAtLeast true past n = (tries : List ℕ) × AreTries past tries × (n ≡ length tries)
 TriedAtLeast false past n = n ≡ (if nat_le 2 (length (ticks past)) then 1 else 0)
 
--- the net was asked: each listener at each tick at which there was room, and each dialer so often
+-- the net was asked: each listener at each tick at which there was room, and each dialer at least as often as it must
+-- be
 pub record WereAsked (es : List End) (past : List Entry) (old new : NetView) : Type 0 where
   pub idles : old.idles ≤ new.idles
   pub faults : old.faults ≤ new.faults
@@ -95,7 +96,7 @@ abbrev pub stalls_of : Option LinkView → ℕ
 stalls_of None = 0
 stalls_of (Some link) = link.stalls
 
--- the same of so many links from this place on
+-- the same for the links from one place on
 abbrev pub stalls_from : FinMap nat_cmp LinkView → ℕ → ℕ → ℕ
 stalls_from back first zero = 0
 stalls_from back first (suc n) = stalls_from back first n + stalls_of (get back (first + n))
@@ -116,7 +117,7 @@ abbrev pub excuses : List (Turn Entry) → FinMap nat_cmp LinkView → ℕ → �
 excuses record_ back first opened =
     stalled_turns record_ + stalls_from back first (opened - first) + 2 * down_total (past_of record_) + out_total (past_of record_) / 64
 
--- when the socket closed, a pipe wasn't wanted whose link isn't a told one of TCP that holds all
+-- when the socket closed, a pipe wasn't wanted whose link isn't a told TCP link that holds all
 pub record IsStuck (z : Setting) (back : FinMap nat_cmp LinkView) (record_ : List (Turn Entry)) : Type 0 where
   pub p : ℕ
   pub later : List Entry
@@ -125,7 +126,7 @@ pub record IsStuck (z : Setting) (back : FinMap nat_cmp LinkView) (record_ : Lis
   pub unwanted : wanted z earlier p ≡ false
   pub not_whole : (place : ℕ) → place_of (past_of record_) p ≡ Some place → IsBack back place (HoldsAll z (past_of record_) p) → ⊥
 
--- the rounds after the play's end, but for one, have their excuse
+-- the rounds after the play's end, except one, have their excuse
 abbrev pub IsPrompt : Setting → Play → FinMap nat_cmp LinkView → ℕ → ℕ → List (Turn Entry) → Type 0
 IsPrompt z play back first opened record_ = late_ticks z play (past_of record_) ≤ excuses record_ back first opened + 1
 

@@ -5,7 +5,7 @@
 pub enum Status {
     /// The play came to its end: the count is reached, or a receive timed out.
     Done,
-    /// The words have no plan; `at` is the length of their longest prefix with which the words of some plan begin.
+    /// The words have no plan; `at` is the length of the longest prefix of them that begins the words of some plan.
     Usage { at: u32 },
     /// A send took longer than it may.
     SendTimedOut,
@@ -13,7 +13,7 @@ pub enum Status {
     Over,
     /// The net failed to listen, or a name within the process is listened on twice.
     NetFault,
-    /// The output failed; a prefix of the text that it was given may stand there.
+    /// The output failed; a prefix of the text that it was given may have been written.
     OutFault,
     /// A file couldn't be read.
     FileFault,

@@ -1,17 +1,17 @@
-//! Where a text stops being an address.
+//! The place where a text stops being an address.
 use sp_base::{Addr, AddrError};
 use std::alloc::Global;
 
-/// The bytes of a text that begin some address, and what stands behind them.
+/// The bytes of a text that begin some address, and what follows them.
 #[derive(Clone, Copy)]
 pub struct Fault<'a> {
-    /// How many bytes begin some address.
+    /// The number of bytes that begin some address.
     pub at: u32,
     /// The rest of the text.
     pub rest: &'a [u8],
 }
 
-/// Where the text stops being an address; None where it is one, or out of memory.
+/// Where the text stops being an address; `None` where it is one, or when out of memory.
 pub fn fault_of(alloc: Global, text: &str) -> Option<Fault<'_>> {
     match Addr::read(alloc, text) {
         Ok(_) => None,

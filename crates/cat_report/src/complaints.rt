@@ -1,4 +1,4 @@
-//! What nngcat says on standard error where it ends with another status than 0, or could not bring all of it to its
+//! What nngcat prints on standard error when it ends with a status other than 0, or could not deliver everything to its
 //! peers (nngcat(1)).
 use crate::addresses::fault_of;
 use crate::said::{Said, is_end, missing, said_at};
@@ -13,16 +13,16 @@ use std::alloc::Global;
 pub struct Ending<'a> {
     /// Its status.
     pub status: Status,
-    /// What the machine said, where a part of it failed.
+    /// The system's message, where a call of the system failed.
     pub reason: Option<&'a str>,
 }
 
-/// A part of the machine that a run needs before it begins.
+/// A part of the system that a run needs before it begins.
 #[derive(Clone, Copy, Debug, PartialEq, Eq)]
 pub enum Part {
-    /// What gives random numbers.
+    /// The source of random numbers.
     Random,
-    /// The clock, or what tells that a socket is ready.
+    /// The clock, or the readiness of sockets.
     Clock,
 }
 
@@ -35,7 +35,7 @@ impl Part {
     }
 }
 
-// Says the line of the status.
+// Prints the line of the status.
 fn complain<E: Print>(err: &E, alloc: Global, status: Status) {
     let Ok(mut line) = Bytes::from_slice(alloc, b"") else {
         return;
@@ -45,19 +45,19 @@ fn complain<E: Print>(err: &E, alloc: Global, status: Status) {
     }
 }
 
-// Says a line that helps the reader.
+// Prints a line that helps the reader.
 fn hint<E: Print>(err: &E, text: &str) {
     let _ = println!(err; "nngcat: {text}");
 }
 
-// Says what the machine said.
+// Prints the system's message.
 fn say_reason<E: Print>(err: &E, reason: Option<&str>) {
     if let Some(reason) = reason {
         hint(err, reason);
     }
 }
 
-/// Says that the words could not be read.
+/// Prints that the words could not be read.
 pub fn say_no_words<E: Print>(err: &E, alloc: Global, status: Status) {
     complain(err, alloc, status);
     if let Status::Usage { at: _ } = status {
@@ -65,14 +65,14 @@ pub fn say_no_words<E: Print>(err: &E, alloc: Global, status: Status) {
     }
 }
 
-/// Says that a part of the machine failed before the run began.
+/// Prints that a part of the system failed before the run began.
 pub fn say_start<E: Print>(err: &E, alloc: Global, status: Status, part: Part, reason: &str) {
     complain(err, alloc, status);
     let name = part.name();
     let _ = println!(err; "nngcat: {name}: {reason}");
 }
 
-/// Says that so many links ended before their peers had closed them.
+/// Prints that `left` links ended before their peers had closed them.
 pub fn say_left_links<E: Print>(err: &E, left: u32) {
     if left > 0 {
         let _ = println!(err;
@@ -81,7 +81,7 @@ pub fn say_left_links<E: Print>(err: &E, left: u32) {
     }
 }
 
-// Puts a text as the format Quoted prints it, behind these words.
+// Appends a text as the format Quoted prints it, after the bytes of `before`.
 fn put_quoted(alloc: Global, before: &[u8], text: &[u8], line: &mut Bytes) -> Result<(), NoMemory> {
     line.append(b"nngcat: ")?;
     line.append(before)?;
@@ -98,7 +98,7 @@ fn say_quoted<E: Print>(err: &E, alloc: Global, before: &[u8], text: &[u8]) {
     }
 }
 
-// Says the word, with no byte in it that a terminal would take for a command.
+// Prints the word, with no byte in it that a terminal would take for a command.
 fn say_word<E: Print>(err: &E, alloc: Global, word: &str) {
     let Ok(mut line) = Bytes::from_slice(alloc, b"") else {
         return;
@@ -108,7 +108,7 @@ fn say_word<E: Print>(err: &E, alloc: Global, word: &str) {
     }
 }
 
-// Says what stands in place of an option of NNG's own nngcat.
+// Prints what replaces an option of NNG's own nngcat.
 fn say_spelling<E: Print>(err: &E, word: &str) {
     let name = match word.split_once('=') {
         Some((name, _)) => name,
@@ -119,7 +119,7 @@ fn say_spelling<E: Print>(err: &E, word: &str) {
     }
 }
 
-// The option whose value stands in the word at this place.
+// The option whose value is in the word at this place.
 fn option_at(words: &[String], at: usize) -> Option<Said<'_>> {
     let mut next = 0;
     for _ in 0..words.len() {
@@ -132,7 +132,7 @@ fn option_at(words: &[String], at: usize) -> Option<Said<'_>> {
     None
 }
 
-// Says where the value of an end stops being an address.
+// Prints where the value of an end stops being an address.
 fn say_address<E: Print>(err: &E, alloc: Global, words: &[String], at: usize) {
     let Some(said) = option_at(words, at) else {
         return;
@@ -149,7 +149,7 @@ fn say_address<E: Print>(err: &E, alloc: Global, words: &[String], at: usize) {
     }
 }
 
-// Says the place of the wrong word, and the word.
+// Prints the place of the wrong word, and the word.
 fn say_wrong<E: Print>(err: &E, alloc: Global, words: &[String], at: u32) {
     complain(err, alloc, Status::Usage { at });
     match words.get(at as usize) {
@@ -167,7 +167,7 @@ fn say_wrong<E: Print>(err: &E, alloc: Global, words: &[String], at: u32) {
     }
 }
 
-// Says each option of this name.
+// Prints each option of this name.
 fn say_options<E: Print>(err: &E, alloc: Global, words: &[String], name: &str) {
     let mut next = 0;
     for _ in 0..words.len() {
@@ -186,7 +186,7 @@ fn say_options<E: Print>(err: &E, alloc: Global, words: &[String], name: &str) {
     }
 }
 
-// Says what failed of the net: the machine's words where it said some, else each address that is listened at.
+// Prints what failed in the net: the system's message if there is one, otherwise each address to listen on.
 fn say_net<E: Print>(err: &E, alloc: Global, words: &[String], reason: Option<&str>) {
     match reason {
         Some(reason) => hint(err, reason),
@@ -194,8 +194,8 @@ fn say_net<E: Print>(err: &E, alloc: Global, words: &[String], reason: Option<&s
     }
 }
 
-/// Says how a run of these words ended: where a word is wrong, which one, and what stands in its place; where a file
-/// failed, or an address that is listened at, each that was named, and what the machine said.
+/// Prints how a run of these words ended: where a word is wrong, which one, and what replaces it; where a file failed,
+/// or an address to listen on, each one that was named, and the system's message.
 pub fn say<E: Print>(err: &E, alloc: Global, words: &[String], ending: Ending<'_>) {
     match ending.status {
         Status::Usage { at } => say_wrong(err, alloc, words, at),

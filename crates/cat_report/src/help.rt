@@ -69,10 +69,10 @@ Examples:
   nngcat --sub --dial ws://127.0.0.1:5558/news --subscribe ne --ascii
 ";
 
-/// What is printed for `--version` alone.
+/// The text for `--version` as the only word.
 pub const VERSION: &str = "nngcat (Goshwelib) 0.1.0, with the behaviour of NNG 1.x\n";
 
-/// The text that a word asks for which stands alone and names nothing to run.
+/// The text to print where the words are a single word that asks for one, and there is nothing to run.
 pub fn asked_text(words: &[String]) -> Option<&'static str> {
     if words.len() != 1 {
         return None;

@@ -1,10 +1,10 @@
-//! What nngcat says beside the messages that it prints: help and version on standard output, and on standard error how
-//! a run ended (nngcat(1)).
+//! What nngcat prints besides messages: help and version on standard output, and on standard error how a run ended
+//! (nngcat(1)).
 //!
-//! `help` has the two texts that stand alone. `complaints` has the lines on standard error: the first is the status's
-//! own (`complaint` of `cat_run`), the others help whoever reads it and begin with `nngcat: ` too. `said` finds the
-//! options among words, `spellings` names what stands in place of an option of NNG's own nngcat, and `addresses` says
-//! where a text stops being an address. All of it is generic over where it is printed.
+//! `help` has the two texts for standard output. `complaints` has the lines on standard error: the first is the
+//! status's own (`complaint` of `cat_run`), the others help the reader and also begin with `nngcat: `. `said` finds the
+//! options among words, `spellings` names what replaces an option of NNG's own nngcat, and `addresses` finds where a
+//! text stops being an address. Everything is generic over the output.
 #![tactic(auto)]
 
 mod addresses;

@@ -1,13 +1,13 @@
-//! What words say, as far as a complaint speaks of it. The words are right, or the beginning of words that are.
+//! The meaning of words, as far as a complaint needs it. The words are right, or the beginning of right words.
 
-/// An option (nngcat(1)): its name, its value, and the place of the word that its value stands in.
+/// An option (nngcat(1)): its name, its value, and the place of the word that has its value.
 #[derive(Clone, Copy)]
 pub struct Said<'a> {
     /// The option's name, with its dashes.
     pub name: &'a str,
     /// Its value, if it has one.
     pub value: Option<&'a str>,
-    /// The place of the word that its value stands in.
+    /// The place of the word that has its value.
     pub value_at: usize,
 }
 
@@ -26,7 +26,7 @@ fn is_format(name: &str) -> bool {
     )
 }
 
-/// Whether an option of this name adds an end.
+/// Returns whether an option of this name adds an end.
 pub fn is_end(name: &str) -> bool {
     matches!(name, "--listen" | "--dial")
 }
@@ -56,7 +56,7 @@ fn is_role(name: &str) -> bool {
     !has_value(name) && !is_format(name)
 }
 
-/// What is missing behind words with which right ones begin.
+/// What is missing after words that begin right ones.
 pub fn missing(words: &[String]) -> &'static str {
     let mut next = 0;
     let mut has_role = false;

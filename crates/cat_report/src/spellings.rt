@@ -1,4 +1,4 @@
-//! Options of NNG's own nngcat 1.5.2 that have another spelling here, or nothing in their place.
+//! Options of NNG's own nngcat 1.5.2 that have another spelling here, or no replacement.
 
 const LISTEN: &str = "--listen tcp://127.0.0.1:PORT";
 
@@ -10,7 +10,7 @@ const PAIR: &str = "--pair, to a peer that speaks version 0 of the protocol";
 
 const NOTHING: &str = "nothing stands in its place here";
 
-/// What to write here in place of an option of NNG's own nngcat; None where it is none of those, or is spelt alike.
+/// What to write here in place of an option of NNG's own nngcat; `None` where it isn't one, or is spelt the same.
 pub fn spelling_of(name: &str) -> Option<&'static str> {
     match name {
         "-A" => Some("--ascii"),
@@ -31,7 +31,7 @@ pub fn spelling_of(name: &str) -> Option<&'static str> {
     }
 }
 
-// The same of those in whose place nothing stands.
+// The same for options without a replacement.
 fn nothing_for(name: &str) -> Option<&'static str> {
     match name {
         "-X" | "--bind-ipc" | "-x" | "--connect-ipc" => Some(NOTHING),

@@ -34,11 +34,11 @@ same_ends e = record { role = refl; dice = refl; listeners = refl; dials = refl 
 pub same_then : {L : Type 0} (a b c : LinkEndsView L) → SameEnds a b → SameEnds b c → SameEnds a c
 same_then a b c f g = record { role = g.role ∙ f.role; dice = g.dice ∙ f.dice; listeners = g.listeners ∙ f.listeners; dials = g.dials ∙ f.dials }
 
--- with what is said of being out of memory for a link
+-- with what holds when a link was missed for want of memory
 pub run_at : {L : Type 0} (seen : L → LinkView) (start : Beginning) (net : NetView) (s : SingleView) (e : LinkEndsView L) (p : Player) (is_dry : Bool) → RunStands seen start s e p net is_dry → RunStands seen start s e p net (is_dry_at s)
 run_at seen start net s e p is_dry run = record { sound = run.sound; play = run.play; ends_stand = run.ends_stand; dry = refl }
 
--- what stands behind a round with which the run ends
+-- what holds after a round with which the run ends
 pub round_over : {L : Type 0} (seen : L → LinkView) (start : Beginning) (net : NetView) (why : Status) (s : SingleView) (e : LinkEndsView L) (p : Player) → RoundStands seen start (rounds.Ends why) s e p net → RunStands seen start s e p net (is_dry_at s)
 round_over seen start net status.Done s e p run = run_at seen start net s e p false run
 round_over seen start net (status.Usage at) s e p run = run_at seen start net s e p false run

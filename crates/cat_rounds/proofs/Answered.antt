@@ -71,7 +71,7 @@ free_there true b h = cc
 free_there false true h = cc
 free_there false false h = refl
 
--- the end of one that is pending alone leaves none
+-- the end of the only pending operation leaves none
 end_alone : (w : Option OpName) (op : OpName) (ss : List Begun) (es : List OperationEnd) → IsAlone w ss es → (s : Begun) → find (is_of op) ss ≡ Some s → (ss ≡ s ∷ []) × (is_of op s ≡ true)
 end_alone w op [] es a s f = cc
 end_alone w op (x ∷ []) es a s f = go (is_of op x) refl f
@@ -111,7 +111,7 @@ alone z play (Took op k ∷ past) p =
     taken (s ∷ x ∷ ss) is a there = elim a [ ]
 alone z play (e ∷ past) p = alone z play past (before z play e past p)
 
--- what an end is of: the one that was pending
+-- the operation that ends: the one that was pending
 record EndsOne (past : List Entry) (op : OpName) : Type 0 where
   s : Begun
   found : pending past op ≡ Some s
@@ -155,7 +155,7 @@ ended_on c why rs zero a = (
 none_zero : (rs : Requests) → rs.live ≡ [] → rs.orphans ≡ [] → AreZero rs
 none_zero rs none behind = (ap elsewhere none, behind)
 
--- one begins there
+-- a request begins there
 begun_zero : (z : Setting) (t c : ℕ) (body : List ℕ) (rs : Requests) → c ≡ 0 → rs.live ≡ [] → rs.orphans ≡ [] → AreZero (begin_on z t c body rs)
 begun_zero z t c body rs zero none behind = (
   subst (λ (xs : List LiveRequest). elsewhere (xs ++ new c ∷ []) ≡ []) (sym none) (subst (λ (n : ℕ). elsewhere (new n ∷ []) ≡ []) (sym zero) refl),
@@ -186,7 +186,7 @@ closed z req (Gone cause by) s rs zero a c = rw req (ended_on s.ctx how.GivenUp 
 lives : (rs : Requests) (s : Begun) → rs.orphans ≡ [] → of_live rs (Some s) ≡ Some s
 lives rs s behind = rw behind refl
 
--- what an end makes of the requests
+-- what an end does to the requests
 end_is : (z : Setting) (past : List Entry) (op : OpName) (ending : Ending) (one : EndsOne past op) → (asked z past).orphans ≡ [] → asked z (End op ending ∷ past) ≡ without_orphan op (after_end z ending (Some one.s) [] (asked z past))
 end_is z past op ending one behind =
     ap (λ (o : Option Begun). without_orphan op (after_end z ending (of_live (asked z past) o) (without_begun (pend past) op) (asked z past))) one.found
@@ -277,7 +277,7 @@ left_out false true t false u h = h
 left_out false false t true u h = h
 left_out false false t false u h = h
 
--- it is over with an operation that counts, or that timed out
+-- the play is over with an operation that counts, or that timed out
 over_closes : (z : Setting) (play : Play) (past : List Entry) → is_req play.role ≡ true → is_closed past ≡ false → IsTrue (each alternates past) → IsTrue (each (is_in_turn z play) past) → over_in z play past ≡ true → under_way past ≡ None → closes (last_result past) ≡ true
 over_closes z play [] req open_ orders turns o under = refl
 over_closes z play (Begin op k c act d ∷ past) req open_ orders turns o under = cc
@@ -304,7 +304,7 @@ over_closes z play (Took op k ∷ past) req open_ orders turns o under =
 over_closes z play (e ∷ past) req open_ orders turns o under =
     over_closes z play past req open_ (later_rule alternates e past orders) (later_rule (is_in_turn z play) e past turns) o under
 
--- the player says so rightly
+-- the player records this correctly
 pub is_over_so : (o : PlayEnd) (z : Setting) (p : Player) (past : List Entry) → (o ≡ overs.Open → ⊥) → IsOver o z (play_of p.script) past → over z (play_of p.script) past ≡ true
 is_over_so overs.Open z p past n i = absurd (n refl)
 is_over_so overs.Finished z p past n i = go (has_reached p.script.count (counted z (play_of p.script) past)) (timed_out true past) (timed_out false past) i

@@ -1,4 +1,4 @@
--- The net was asked as the plan wants it.
+-- The net was asked as the plan requires.
 use Rattle.std.proofs.Common.{◌≡◌, refl, ap, sym, ◌∙◌, subst, List, [], ◌∷◌, ◌++◌, ℕ, ◌+◌, ◌*◌, ◌≤◌, ◌<◌, Bool, true, false, arith, length, inl, inr, mul-le-mul_left}
 use Rattle.std.specs.Prelude.{◌⊎◌, ◌^◌, ◌==◌, nat_le, if◌then◌else◌}
 use Rattle.std.specs.List.{AllByRecursion}
@@ -42,7 +42,7 @@ tries_few past tries order are =
     let few = earlier_few past in
     omega (arith, most, few)
 
--- a dialer has tried so often
+-- how often a dialer has tried
 has_tried : (past : List Entry) (same : Type 0) (b : Bool) (tried : ℕ) → (b ≡ true → same) → AreOrdered (ticks (before_last_tick past)) → length (ticks past) < 2 ^ 64 → TriedAtLeast b past tried → (d : Dialer) → IsDialed same past d → tried ≤ d.tries
 has_tried past same true tried stays order few (tries, are, is) d dialed =
     let most = tries_few past tries order are in
@@ -61,7 +61,7 @@ all_tried past same tried each (d ∷ ds) all =
     let one = each d all.0 in
     omega (arith, before, one)
 
--- before the first tick none is wanted
+-- before the first tick no try is required
 none_wanted : (past : List Entry) (b : Bool) (tried : ℕ) → AreOrdered (ticks (before_last_tick past)) → ticks past ≡ [] → TriedAtLeast b past tried → tried ≡ 0
 none_wanted past true tried order none (tries, are, is) =
     let most = tries_few past tries order are in

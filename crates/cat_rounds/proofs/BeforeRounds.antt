@@ -1,4 +1,4 @@
--- A run stands before its first round.
+-- A run before its first round.
 use Rattle.std.proofs.Common.{◌≡◌, refl, ap, sym, ◌∙◌, subst, List, [], ℕ, zero, suc, Bool, true, false, arith, length, Option, Some, None, ◌∷◌, inl, inr}
 use Rattle.std.specs.List.{AllByRecursion}
 use Rattle.std.specs.Prelude.{IsTrue, ◌||◌, ◌&&◌, ◌==◌, not, is_some, nat_le, Result, Ok, IfOk}
@@ -119,7 +119,7 @@ begins seen start s e script p empty none new role surveys carries =
 
 -- ---- The plan
 
--- the play of a plan whose sends carry this
+-- the play of a plan whose sends carry this body
 abbrev pub script_of : CatPlan → Option (List ℕ) → Script
 script_of plan body =
     record { role = plan.role; body = body; topics = plan.topics; count = plan.count; interval = plan.interval; recv_timeout = plan.recv_timeout; send_timeout = plan.send_timeout; format = plan.format }
@@ -155,7 +155,7 @@ prints_nothing text h p empty = subst (λ (g : List (Turn Entry)). HasPrinted te
     nothing None = refl
     nothing (Some s) = ap (λ (s : List ℕ). Some s) (sym (append_nil s))
 
--- the run of a plan stands before its first round
+-- what holds before the first round of the run of a plan
 pub plan_begins : {L : Type 0} (seen : L → LinkView) (net : NetView) (s : SingleView) (e : LinkEndsView L) (plan : CatPlan) (body : Option (List ℕ)) (p : Player) (dice : ℕ) → s.seen ≡ [] → s.setting ≡ run_setting plan.role dice → e ≡ no_ends plan.role dice → IsNewPlayer (script_of plan body) p → IsBuilt plan
     → IsBody plan.data_ body → RunStands seen (start_of net plan dice) s e p net false
 plan_begins seen net s e plan body p dice empty setting none new built is =

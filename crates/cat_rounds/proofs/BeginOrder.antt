@@ -1,5 +1,5 @@
--- What the order of begins and collectings tells: which operation is pending, which has ended, and that the play is not over
--- while an operation is under way.
+-- What follows from the order of begins and collectings: the operation that is pending, the one that has ended, and
+-- that the play is not over while an operation is under way.
 use Rattle.std.proofs.Common.{◌≡◌, refl, ap, sym, ◌∙◌, subst, List, [], ◌∷◌, ◌++◌, ℕ, ◌+◌, ◌≤◌, Bool, true, false, arith, Option, Some, None}
 use Rattle.std.specs.Prelude.{not, ◌&&◌, ◌||◌, IsTrue, if◌then◌else◌, find, filter, is_some, is_none}
 use Rattle.turn_lock.specs.declared.turn.Turn.{Turn}
@@ -38,7 +38,7 @@ later_rule rule e past h = right_true (rule past e) (each rule past) h
 later : (e : Entry) (past : List Entry) → IsTrue (each alternates (e ∷ past)) → IsTrue (each alternates past)
 later = later_rule alternates
 
--- ---- Who is under way
+-- ---- The operation that is under way
 
 pub is_op_means : (o : Option OpName) (op : OpName) → is_op o op ≡ true → o ≡ Some op
 is_op_means None op h = cc
@@ -48,7 +48,7 @@ pub none_means : (o : Option OpName) → is_none o ≡ true → o ≡ None
 none_means None h = refl
 none_means (Some op) h = cc
 
--- one, if the operation is under way
+-- 1 if the operation is under way
 abbrev busy : Option OpName → OpName → ℕ
 busy None op = 0
 busy (Some o) op = if same_op o op then 1 else 0
@@ -73,7 +73,7 @@ begin_took (Took o k ∷ past) h op =
     go false m = omega arith
 begin_took (e ∷ past) h op = begin_took past (later e past h) op
 
--- where none is under way none is pending
+-- where no operation is under way, none is pending
 none_pending : (ss : List Begun) → ((op : OpName) → occurs ss op ≡ 0) → ss ≡ []
 none_pending [] h = refl
 none_pending (s ∷ ss) h =
@@ -139,7 +139,7 @@ pub end_grows : (entries past : List Entry) (op : OpName) → end_count past op 
 end_grows [] past op = omega arith
 end_grows (e ∷ entries) past op = let a = end_more e past op in let b = end_grows entries (e ∷ past) op in omega arith
 
--- it stays, where the operation ends once
+-- the end stays, where the operation ends once
 pub end_stays : (entries past : List Entry) (op : OpName) (x : Ending) → end_of past op ≡ Some x → end_count (onto entries past) op ≤ 1 → end_of (onto entries past) op ≡ Some x
 end_stays [] past op x h once = h
 end_stays (End o y ∷ entries) past op x h once =
@@ -168,7 +168,7 @@ pending_is_not_left z h op legal orders under is = go (is_left (past_of h)) refl
     go true e = none (left_has_ended (past_of h) orders e)
     go false e = refl
 
--- what is ended and not collected has an end
+-- what ended and was not collected has an end
 any_append : (f : OperationEnd → Bool) (a b : List OperationEnd) → list_any f (a ++ b) ≡ (list_any f a || list_any f b)
 any_append f [] b = refl
 any_append f (x ∷ a) b = go (f x) (any_append f a b)

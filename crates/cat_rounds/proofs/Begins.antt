@@ -61,7 +61,7 @@ may_send _ b r last h = refl
 
 -- ---- A turn of a single caller
 
--- what is said of the history and the setting, is said of the socket
+-- what holds of the history and the setting holds of the socket
 pub at_new : {says : Setting → List (Turn Entry) → Turn Entry → Type 0} (s s' : SingleView) (took : TookOne says s s') (P : Setting → List (Turn Entry) → Type 0) → P s.setting (s.seen ++ took.turn ∷ []) → P s'.setting s'.seen
 at_new s s' took P p = subst (λ (z : Setting). P z s'.seen) (sym took.setting) (subst (λ (h : List (Turn Entry)). P s.setting h) (sym took.seen) p)
 
@@ -72,7 +72,7 @@ pub goes_on_by : {says : Setting → List (Turn Entry) → Turn Entry → Type 0
 goes_on_by s s' took none =
     record { setting = took.setting; links = subst (λ (h : List (Turn Entry)). AddsNone moves_ends s.seen h) (sym took.seen) (adds_one moves_ends s.seen took.turn none) }
 
--- ---- A turn of which no rule speaks
+-- ---- A turn that no rule concerns
 
 pub silent_stands : {says : Setting → List (Turn Entry) → Turn Entry → Type 0} (s s' : SingleView) (took : TookOne says s s') (p : Player) (t : ℕ) → none_of moves_calls took.turn.entries ≡ true → Stands s p t → Stands s' p t
 silent_stands s s' took p t none was =
@@ -93,7 +93,7 @@ silent_left s s' took none left =
 
 -- ---- Why a begin was refused
 
--- the context on which all is played is open
+-- the context on which everything is played is open
 pub ctx_zero : (play : Play) (past : List Entry) → IsTrue (each (keeps_topics play) past) → ctxs past ≡ 0 ∷ []
 ctx_zero play [] h = refl
 ctx_zero play (Ctx c gate ∷ past) h = cc
@@ -209,7 +209,7 @@ pub record Makes (s : SingleView) (p : Player) (op : OpName) (act : RecordedAct)
   pub spaced : is_spaced (play_of p.script) (past_of s.seen) (Begin op 1 0 act d) ≡ true
   pub pipe : (is_send (Begin op 1 0 act d) && waits_for_pipe (play_of p.script) (past_of s.seen)) ≡ false
 
--- what stands after it, where the player notes this of its last send
+-- what holds after it, where the player records this for its last send
 pub record HasBegun (s s' : SingleView) (p : Player) (t : ℕ) (op : OpName) (sent : Option ℕ) : Type 0 where
   pub stands : Stands s' (record p { op = Some op; last_send = sent }) t
   pub goes_on : GoesOnBy s s'
@@ -228,7 +228,7 @@ is_open overs.Open z play past e h = h
 is_open overs.Finished z play past e h = cc
 is_open overs.SendTimedOut z play past e h = cc
 
--- what the player notes of its last send
+-- what the player records for its last send
 abbrev pub noted : RecordedAct → Option ℕ → ℕ → Option ℕ
 noted Recv sent t = sent
 noted (Send m) sent t = Some t

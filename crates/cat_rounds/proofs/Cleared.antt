@@ -56,7 +56,7 @@ flushed_clears entries past p f no_stall no_out = go f.is_flush
         let outs : none_of is_out f.after ≡ true = (none_after is_out f.before f.flush f.after (subst (λ (es : List Entry). none_of is_out es ≡ true) stands no_out)).1 in
         subst (λ (es : List Entry). is_cleared (onto es past) p ≡ true) (sym stands) (rw (onto-append f.before (f.flush ∷ f.after) past, e) (cleared_stays p f.after (Clear p ∷ onto f.before past) outs (rw (self p) refl)))
 
--- after a turn that flushed each pipe, found no pipe that has something left to write, and put nothing on a pipe, all is
+-- after a turn that flushed each pipe, found no pipe with something left to write, and put nothing on a pipe, all is
 -- written
 pub all_cleared : (h : List (Turn Entry)) (t : Turn Entry) → AreFlushed (past_of h) t → none_of is_stall t.entries ≡ true → none_of is_out t.entries ≡ true → (p : ℕ) → has (up (past_of (h ++ t ∷ []))) p ≡ true → is_cleared (past_of (h ++ t ∷ [])) p ≡ true
 all_cleared h t flushed no_stall no_out p is_up =

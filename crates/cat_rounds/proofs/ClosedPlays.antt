@@ -1,4 +1,4 @@
--- What the close, and the turns behind it, leave of a play.
+-- What the close, and the turns after it, leave of a play.
 use Rattle.std.proofs.Common.{◌≡◌, inl, inr, refl, ap, sym, ◌∙◌, List, [], ◌∷◌, ◌++◌, ℕ, Bool, true, false, append_assoc}
 use Rattle.std.specs.List.{list_any}
 use Rattle.turn_lock.specs.declared.turn.Turn.{Turn}
@@ -78,7 +78,7 @@ pub closed_onto : (es past : List Entry) → is_closed past ≡ true → is_clos
 closed_onto [] past h = h
 closed_onto (e ∷ es) past h = closed_onto es (e ∷ past) (closed_more e past h)
 
--- the past behind the close
+-- the past after the close
 pub past_closed : (callers : ℕ) (h : List (Turn Entry)) (t : Turn Entry) (c : ClosesSo callers (past_of h) t) → past_of (h ++ t ∷ []) ≡ Close c.totals ∷ onto (c.ends ++ c.down_entries) (past_of h)
 past_closed callers h t c =
     past_of-append h t ∙ (ap (λ es. onto es (past_of h)) (close_stands callers (past_of h) t c) ∙ onto-more (c.ends ++ c.down_entries) (Close c.totals) (past_of h))
@@ -86,7 +86,7 @@ past_closed callers h t c =
 pub closes : (callers : ℕ) (h : List (Turn Entry)) (t : Turn Entry) → ClosesSo callers (past_of h) t → is_closed (past_of (h ++ t ∷ [])) ≡ true
 closes callers h t c = ap is_closed (past_closed callers h t c)
 
--- ---- The turns behind it
+-- ---- The turns after it
 
 not_any : (f g : Entry → Bool) → ((e : Entry) → f e ≡ false → g e ≡ false) → (es : List Entry) → none_of f es ≡ true → list_any g es ≡ false
 not_any f g step [] h = refl
@@ -101,7 +101,7 @@ no_send : (e : Entry) → begins_or_ticks e ≡ false → is_send e ≡ false
 no_send (Begin op k c act d) h = cc
 no_send _ h = refl
 
--- a closed history, with what stood before its close
+-- a closed history, with what held before its close
 record IsBehind (z : Setting) (play : Play) (base h : List (Turn Entry)) : Type 0 where
   so_far : PlaysSoFar z play h
   closed : is_closed (past_of h) ≡ true

@@ -1,4 +1,4 @@
--- A collecting of the play: what stands after it, what it counts, and what it prints.
+-- A collecting of the play: what holds after it, what it counts, and what it prints.
 use Rattle.std.proofs.Common.{◌≡◌, refl, ap, sym, ◌∙◌, subst, List, [], ◌∷◌, ◌++◌, ℕ, ◌+◌, ◌-◌, ◌≤◌, Bool, true, false, Some, None, Option, inl, inr, arith, append_assoc}
 use Rattle.std.specs.Prelude.{◌==◌, ◌⊎◌, ◌||◌, ◌&&◌, IsTrue, is_some, is_none, nat_le, if◌then◌else◌}
 use Rattle.std.proofs.lemmas.Bool.Decides.{nat_tests}
@@ -88,7 +88,7 @@ going_is_open overs.SendTimedOut z play past is h = go (has_reached play.count (
     go true c e k = cc
     go false c e k = cc
 
--- so many more, if it counts
+-- one more, if it counts
 abbrev one_more : Bool → ℕ → ℕ
 one_more c n = if c then n + 1 else n
 
@@ -136,9 +136,9 @@ over_next true (Some k) (Some d) n is r = go (d == 1) refl
     go true e = inl (e, last k d n is e)
     go false e = inr (e, more k d n is r e)
 
--- ---- What stands
+-- ---- What holds
 
--- an operation of the player was collected, and ended so
+-- an operation of the player was collected, and ended like this
 pub record IsCollected (s s' : SingleView) (p : Player) (op : OpName) (act : RecordedAct) (ending : Ending) : Type 0 where
   pub setting : s'.setting ≡ s.setting
   pub sound : IsSound s'
@@ -218,7 +218,7 @@ pub busy_is_due : (s : SingleView) (p : Player) (t : ℕ) (op : OpName) → Stan
 busy_is_due s p t op was holds =
     due_is_some p.script.count p.due (counted s.setting (play_of p.script) (past_of s.seen)) was.play.due (parts _ _ _ (busy_is_open s p t op was holds)).0
 
--- ---- What the player notes
+-- ---- What the player records
 
 drop_false : (a b : Bool) → (a && false || b) ≡ b
 drop_false true b = refl
@@ -275,14 +275,14 @@ noted_stands s s' p p' t op b ending held coll was holds none noted =
         k.leaves.count
         ∙ ap (λ (y : Bool). if y then before + 1 else before) (sym (counts_same p.script.role (is_some p.script.body) is_over (asks_anew s.setting (past_of s.seen)) (Some x) (over_is s p t was)) ∙ is)
 
-    -- it didn't end with its deadline
+    -- it didn't time out
     untimed : (x : Ending) (c : Bool) (last : LastCollected) (q : Player) → is_timed_out (Some x) ≡ false → IsCollected s s' p op b.act x → IsLast last (Some x) → counts_for p.script.role (is_some p.script.body) is_over (Some x) ≡ c
         → PlayStands s'.setting s'.seen (record p { op = None; last = last; due = less_due c p.due; over = over_after (is_last_item c p.due) p.over; text = q.text })
     untimed x c last q in_time k is_last is =
         let count = counts x c k is in
         k.stands last (less_due c p.due) (over_after (is_last_item c p.due) p.over) q is_last (subst (λ (m : ℕ). IsDue p.script.count (less_due c p.due) m) (sym count) (due_after c p.script.count p.due before was.play.due (parts _ _ _ going).0)) (over_won c s.setting (play_of p.script) (past_of s.seen) (past_of s'.seen) p.due p.over count (λ r. k.leaves.timed r ∙ (ap (λ y. is_kind r (act_of (past_of s'.seen) op) && y || timed_out r (past_of s.seen)) in_time ∙ drop_false (is_kind r (act_of (past_of s'.seen) op)) (timed_out r (past_of s.seen)))) open_ was.play.due going)
 
-    -- it ended with its deadline
+    -- it timed out
     timed : (by : ℕ) → IsCollected s s' p op b.act (Gone TimedOut by) → PlayStands s'.setting s'.seen (record p { op = None; last = lasts.Gone; over = over_for (is_none (back_of b.act)) })
     timed by k =
         let count = counts (Gone TimedOut by) false k (gone_counts p.script.role (is_some p.script.body) is_over TimedOut by (λ e. cc)) in
@@ -315,7 +315,7 @@ grown_twice (Some s) x y = ap (λ z. Some z) (append_assoc s x y)
 joined_more : (ts : List (List ℕ)) (t : List ℕ) → joined (ts ++ t ∷ []) ≡ joined ts ++ t
 joined_more ts t = flat_map-append (λ x. x) ts (t ∷ []) ∙ ap (λ ys. joined ts ++ ys) (append_nil t)
 
--- all but the last stand there, and a prefix of it
+-- all texts except the last are in the sink, and a prefix of the last
 cut : (ts : List (List ℕ)) (t prefix : List ℕ) → IsPrefix prefix t → IsCutShort (ts ++ t ∷ []) (joined ts ++ prefix)
 cut ts t prefix f = inr (ts, t, prefix, refl, f, refl)
 

@@ -44,7 +44,7 @@ use Rattle.sp_ends.specs.AddedNames.{ListensName, DialsName}
 use Rattle.sp_ends.specs.declared.error.EndError.{EndError}
 use Rattle.sp_ends.specs.declared.error.EndError.TheVariants as errors
 
--- the same links, of a net that differs in nothing that they see
+-- the same links, for a net that differs in nothing that they see
 pub links_kept : (z : Setting) (start : Beginning) (h : List (Turn Entry)) (net net' : NetView) → net'.opened ≡ net.opened → net'.back ≡ net.back → LinksKept z start h net → LinksKept z start h net'
 links_kept z start h net net' o b k =
     record {
@@ -60,7 +60,7 @@ links_kept z start h net net' o b k =
       others = rw (o, b) k.others;
     }
 
--- ---- One listener more
+-- ---- One more listener
 
 still_one : (m m' : FinMap nat_cmp Scheme) (at k : ℕ) (s t : Scheme) → get m at ≡ None → m' ≡ insert m at s → get m k ≡ Some t → get m' k ≡ Some t
 still_one m m' at k s t fresh is was = grind (gets, rules, is, fresh, was)
@@ -98,7 +98,7 @@ listens_more seen z start net net' e e' l linked among at is few s =
       of_run = record { listens = all_more (λ (x : Listener). IsAmong x.addr start.origins.listens) e.listeners l s.of_run.listens among; dials = s.of_run.dials; dice = s.of_run.dice };
     })
 
--- ---- One dialer more
+-- ---- One more dialer
 
 tries_more : (ds : List Dialer) (d : Dialer) → d.tries ≡ 0 → tries_of (ds ++ d ∷ []) ≡ tries_of ds
 tries_more [] d t = omega (arith, t)
@@ -125,9 +125,9 @@ dials_more seen z start net e e' d addr n among is few s =
       of_run = record { listens = s.of_run.listens; dials = all_more (λ (x : Dialer). IsAmong x.addr start.origins.dials) e.dialers d s.of_run.dials (subst (λ (a : Addr). IsAmong a start.origins.dials) (sym n.addr_is) among); dice = s.of_run.dice };
     })
 
--- ---- One end of the plan more
+-- ---- One more end of the plan
 
--- how many listens and dials over links an end is
+-- 1 where an end listens, or dials, over links
 abbrev pub listen_one : End → ℕ
 listen_one (ends.Listen (addrs.Tcp host port)) = 1
 listen_one (ends.Listen (addrs.Ws host port path)) = 1
@@ -221,7 +221,7 @@ pub record GrowsBy {L : Type 0} (net net' : NetView) (reg reg' : Registry) (e e'
   pub names_are : names reg' ≡ names reg ++ name_one x
   pub apart : AreApart (names reg) → AreApart (names reg')
 
--- ---- No name stands twice
+-- ---- No name occurs twice
 
 unlisted_new : (name : List ℕ) (reg : Registry) → IsUnlisted name reg → IsNew name (names reg)
 unlisted_new name [] u = tt
@@ -290,7 +290,7 @@ grows net net' reg reg' e e' (ends.Dial (addrs.Inproc name)) ((named, kept), sam
     let m = same_net net net' same in
     record { listens = g.0; dials = g.1; opened = m.0; faults = m.1; one = omega arith; names_are = same_names reg reg' same_reg; apart = same_apart reg reg' same_reg }
 
--- the ends stand on with these ends over links
+-- what holds of the ends still holds, with these ends over links
 with_ends : {L : Type 0} (seen : L → LinkView) (start : Beginning) (net net' : NetView) (s : SingleView) (e e' : LinkEndsView L) → s.seen ≡ [] → LinksStand seen start s e net false → EndsStand seen s.setting start [] net' e' → LinksStand seen start s e' net' false
 with_ends seen start net net' s e e' empty links stand =
     record { ends_stand = subst (λ (h : List (Turn Entry)). EndsStand seen s.setting start h net' e') (sym empty) stand; dry = links.dry }
@@ -309,7 +309,7 @@ dials_link : {L : Type 0} (seen : L → LinkView) (start : Beginning) (net net' 
 dials_link seen start net net' s e e' addr empty of_plan (d, n, is) same few links =
     subst (λ (m : NetView). LinksStand seen start s e' m false) (sym same) (with_ends seen start net net s e e' empty links (dials_more seen s.setting start net e e' d addr n of_plan is few (stood seen start net s e empty links)))
 
--- the ends stand on where those over links, and the net, are those from before
+-- what holds of the ends still holds, where those over links and the net are unchanged
 kept_ends : {L : Type 0} (seen : L → LinkView) (start : Beginning) (net net' : NetView) (s : SingleView) (e e' : LinkEndsView L) (is_dry : Bool) → e' ≡ e → net' ≡ net → LinksStand seen start s e net is_dry → LinksStand seen start s e' net' is_dry
 kept_ends seen start net net' s e e' is_dry is same links =
     subst (λ (m : NetView). LinksStand seen start s e' m is_dry) (sym same) (subst (λ (w : LinkEndsView _). LinksStand seen start s w net is_dry) (sym is) links)
@@ -329,7 +329,7 @@ adds seen start net net' reg reg' s e e' (ends.Dial (addrs.Ws host port path)) e
 adds seen start net net' reg reg' s e e' (ends.Dial (addrs.Inproc name)) empty of_plan ((named, kept), same, same_reg) few links =
     kept_ends seen start net net' s e.links e'.links false kept same links
 
--- the same where the socket is that from before
+-- the same, where the socket is unchanged
 pub adds_links : {L : Type 0} (seen : L → LinkView) (start : Beginning) (net net' : NetView) (reg reg' : Registry) (s s' : SingleView) (e e' : EndsView L) (x : End) → s.seen ≡ [] → s' ≡ s → IsEndOf start.origins x → AddsEnd (Ok tt) x e e' net net' reg reg' → length e.links.listeners + length e.links.dialers < 64 → LinksStand seen start s e.links net false
     → LinksStand seen start s' e'.links net' false
 adds_links seen start net net' reg reg' s s' e e' x empty same of_plan added few links =
@@ -338,7 +338,7 @@ adds_links seen start net net' reg reg' s s' e e' x empty same of_plan added few
 same_running : (s s' : SingleView) (p p' : Player) → s' ≡ s → p' ≡ p → IsRunning s p → IsRunning s' p'
 same_running s s' p p' same_s same_p r = subst (λ (v : SingleView). IsRunning v p') (sym same_s) (subst (λ (q : Player). IsRunning s q) (sym same_p) r)
 
--- the run stands on where the play is that from before too
+-- what holds of the run still holds, where the play is also unchanged
 pub adds_on : {L : Type 0} (seen : L → LinkView) (start : Beginning) (net net' : NetView) (reg reg' : Registry) (s s' : SingleView) (e e' : EndsView L) (p p' : Player) (x : End) → s.seen ≡ [] → s' ≡ s → p' ≡ p → IsEndOf start.origins x → AddsEnd (Ok tt) x e e' net net' reg reg' → length e.links.listeners + length e.links.dialers < 64 → RunStands seen start s e.links p net false
     → RunStands seen start s' e'.links p' net' false
 adds_on seen start net net' reg reg' s s' e e' p p' x empty same_s same_p of_plan added few run =
@@ -368,7 +368,7 @@ ends_fail seen z start h net net' e f s =
       of_run = s.of_run;
     }
 
--- the run stands on where the ends over links and the net are those from before
+-- what holds of the run still holds, where the ends over links and the net are unchanged
 same_run : {L : Type 0} (seen : L → LinkView) (start : Beginning) (net net' : NetView) (s : SingleView) (e e' : LinkEndsView L) (p : Player) (is_dry : Bool) → e' ≡ e → net' ≡ net → RunStands seen start s e p net is_dry → RunStands seen start s e' p net' is_dry
 same_run seen start net net' s e e' p is_dry is same run =
     subst (λ (m : NetView). RunStands seen start s e' p m is_dry) (sym same) (subst (λ (w : LinkEndsView _). RunStands seen start s w p net is_dry) (sym is) run)
@@ -399,7 +399,7 @@ refuses seen start net net' reg reg' s e e' p (ends.Dial (addrs.Ws host port pat
 refuses seen start net net' reg reg' s e e' p (ends.Dial (addrs.Inproc name)) why ((named, kept), same, same_reg) run =
     same_run seen start net net' s e.links e'.links p false kept same run
 
--- an end was refused where the socket and the play are those from before
+-- an end was refused, where the socket and the play are unchanged
 pub refuses_on : {L : Type 0} (seen : L → LinkView) (start : Beginning) (net net' : NetView) (reg reg' : Registry) (s s' : SingleView) (e e' : EndsView L) (p p' : Player) (x : End) (why : EndError) → s' ≡ s → p' ≡ p → AddsEnd (Err why) x e e' net net' reg reg' → RunStands seen start s e.links p net false
     → RunStands seen start s' e'.links p' net' (is_dry_at s')
 refuses_on seen start net net' reg reg' s s' e e' p p' x why same_s same_p failed run =
@@ -528,7 +528,7 @@ not_apart : (name : List ℕ) (xs ys zs : List (List ℕ)) → AreApart (xs ++ n
 not_apart name [] ys zs (fresh, rest) = not_new name ys zs fresh
 not_apart name (x ∷ xs) ys zs (fresh, rest) = not_apart name xs ys zs rest
 
--- where no name stands twice none is listened on twice
+-- where no name occurs twice, none is listened on twice
 pub never_twice : (es : List End) → AreApart (listen_names es) → ListensTwice es → ⊥
 never_twice es apart (name, a, b, c, is) =
     let first = subst (λ (l : List End). AreApart (listen_names l)) is apart in
@@ -546,19 +546,19 @@ once_so status.OutFault es once = once
 once_so status.FileFault es once = tt
 once_so status.NoMemory es once = tt
 
--- what is so of each end is so of this one
+-- what holds of each end holds of this one
 pub end_at : (P : End → Type 0) (es : List End) (i : ℕ) (x : End) → AllByRecursion P es → i < length es → x ≡ get_or es i x → P x
 end_at P [] i x a l e = absurd (omega (arith, l))
 end_at P (y ∷ es) zero x a l e = subst P (sym e) a.0
 end_at P (y ∷ es) (suc i) x a l e = end_at P es i x a.1 (omega (arith, l)) e
 
--- ---- The end of the rounds, or before them
+-- ---- The end of the rounds, or before the first one
 
 addrs_length : (ds : List Dialer) → length (addrs_of ds) ≡ length ds
 addrs_length [] = refl
 addrs_length (d ∷ ds) = let e = addrs_length ds in omega (arith, e)
 
--- where the addresses are the same there are as many
+-- where the addresses are the same, so is their number
 pub as_many : (ds es : List Dialer) → addrs_of ds ≡ addrs_of es → length ds ≡ length es
 as_many ds es e = sym (addrs_length ds) ∙ (ap length e ∙ addrs_length es)
 

@@ -1,4 +1,4 @@
--- The last collecting, behind the close.
+-- The last collecting, after the close.
 use Rattle.std.proofs.Common.{◌≡◌, refl, ap, sym, ◌∙◌, subst, List, ◌∷◌, ◌≤◌, false, Some, arith}
 use Rattle.turn_lock.specs.declared.turn.Turn.{Turn}
 use Rattle.sp_base.specs.declared.OpName.{OpName}

@@ -1,4 +1,4 @@
--- The ticks at which the play is over are no more than the turns in which a pipe could not write all, but for one.
+-- The ticks at which the play is over are at most one more than the turns in which a pipe could not write all.
 use Rattle.std.proofs.Common.{◌≡◌, ◌≤◌, ◌<◌, ◌+◌, ◌-◌, ◌*◌, ◌/◌, ◌++◌, ◌∷◌, ◌⊎◌, ℕ, Bool, true, false, cond, List, [], length, Option, Some, None, refl, sym, ap, subst, ◌∙◌, arith, inl, inr}
 use Rattle.std.specs.Prelude.{not, ◌&&◌, filter}
 use Rattle.std.specs.List.{list_any}
@@ -111,7 +111,7 @@ play_leaves test h h' more = keeps_all moves_calls (λ g. ticks_where test (past
 
 -- ---- Parts of a round
 
--- no tick more at which the play is over, and no turn with a stall less
+-- no further tick at which the play is over, and no fewer turns with a stall
 pub record LateStays (s s' : SingleView) (p : Player) : Type 0 where
   pub late : late_at s' p ≡ late_at s p
   pub stalled : stalled_turns s.seen ≤ stalled_turns s'.seen
@@ -171,7 +171,7 @@ late_of : (n : ℕ) (s : SingleView) (p q : Player) → q.script ≡ p.script �
 late_of n s p q same le = subst (λ m. m ≤ stalled_turns s.seen + n) (ap (λ x. late_ticks s.setting (play_of x) (past_of s.seen)) (sym same)) le
 
 module _ (s s1 s2 : SingleView) (p q : Player) (same : q.script ≡ p.script) (was : IsLateBy 0 s p) (tick : LateTicked s s1 p) (rest : LateStays s1 s2 p) where
-  -- it ended
+  -- the round ended the run
   pub ends_late : IsLateBy 1 s2 q
   ends_late = late_of 1 s2 p q same (omega (arith, was, tick.late, tick.stalled, rest.late, rest.stalled))
 
@@ -179,7 +179,7 @@ module _ (s s1 s2 : SingleView) (p q : Player) (same : q.script ≡ p.script) (w
   pub goes_early : p.over ≡ overs.Open → IsLateBy 0 s2 q
   goes_early e = late_of 0 s2 p q same (omega (arith, was, tick.early e, tick.stalled, rest.late, rest.stalled))
 
-  -- a pipe could not write all in a turn more
+  -- a pipe could not write all in one more turn
   pub goes_late : (s3 : SingleView) → LateStays s2 s3 p → stalled_turns s2.seen + 1 ≤ stalled_turns s3.seen → IsLateBy 0 s3 q
   goes_late s3 last more = late_of 0 s3 p q same (omega (arith, was, tick.late, tick.stalled, rest.late, rest.stalled, last.late, more))
 
@@ -187,7 +187,7 @@ module _ (s s1 s2 : SingleView) (p q : Player) (same : q.script ≡ p.script) (w
   drains_late (rounds.Goes moved) s3 last more = goes_late s3 last more
   drains_late (rounds.Ends why) s3 last more = late_of 1 s3 p q same (omega (arith, was, tick.late, tick.stalled, rest.late, rest.stalled, last.late, last.stalled))
 
--- open, or not
+-- the play is open, or not
 pub open_or : (o : PlayEnd) → (o ≡ overs.Open) ⊎ (o ≡ overs.Open → ⊥)
 open_or overs.Open = inl refl
 open_or overs.Finished = inr (λ e. cc)

@@ -8,7 +8,7 @@ use Rattle.cat_rounds.specs.PlayerSteps.{Stands}
 use Rattle.cat_rounds.specs.Parts.{RunPartsView, IsRunning, IsAt}
 use Rattle.cat_rounds.specs.RunRounds.{LinksStand, RunStands}
 
--- ---- The two halves of what stands
+-- ---- The two halves of what holds
 
 pub running_of : (s : SingleView) (p : Player) (t : ℕ) → Stands s p t → IsRunning s p
 running_of s p t x = record { sound = x.sound; play = x.play }

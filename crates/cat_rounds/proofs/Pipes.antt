@@ -86,7 +86,7 @@ was_sent z h p op legal stands held flood body none =
     under : is_some (under_way (past_of h)) ≡ true
     under = ap is_some hand.0
 
--- a player that holds an operation waits for no pipe, also after it was collected
+-- a player that holds an operation no longer waits for a pipe, also after the operation was collected
 pub knows_after : (has_pipe : Bool) (z : Setting) (h : List (Turn Entry)) (p : Player) (op : OpName) (s' : SingleView) (p' : Player) → Legal z h → PlayStands z h p → p.op ≡ Some op → p'.script ≡ p.script → p'.last_send ≡ p.last_send → KnowsPipes has_pipe s' p'
 knows_after has_pipe z h p op s' p' legal stands held script sent flood body free none =
     elim (was_sent z h p op legal stands held (sym (ap (λ s. floods s.role) script) ∙ flood) (sym (ap (λ s. is_some s.body) script) ∙ body) (sym sent ∙ none)) [ ]

@@ -1,4 +1,4 @@
--- What a run comes to, by its rounds and its record.
+-- The result of a run, by its rounds and its record.
 use Rattle.std.proofs.Common.{◌≡◌, refl, ap, sym, ◌∙◌, subst, List, [], ◌∷◌, ◌++◌, ℕ, ◌+◌, ◌<◌, Bool, true, false, length, Option, Some, None, inl, inr}
 use Rattle.std.specs.Prelude.{◌⊎◌, ◌^◌, ◌||◌, IsTrue}
 use Rattle.turn_lock.specs.declared.turn.Turn.{Turn}
@@ -43,7 +43,7 @@ use Rattle.cat_rounds.proofs.Asked.{AreAsked, were_asked}
 
 -- ---- Turns that move no end
 
--- what each such entry leaves, such turns leave
+-- what each such entry leaves unchanged, such turns leave unchanged
 kept : {A : Type 0} (f : List Entry → A) → ((e : Entry) (past : List Entry) → moves_ends e ≡ false → f (e ∷ past) ≡ f past) → (h h' : List (Turn Entry)) → AddsNone moves_ends h h' → f (past_of h') ≡ f (past_of h)
 kept f step h h' more = keeps_all moves_ends (λ g. f (past_of g) ≡ f (past_of h)) one h h' more refl
   where
@@ -106,14 +106,14 @@ dry_ends status.OutFault s dry is = cc
 dry_ends status.FileFault s dry is = cc
 
 module _ {L : Type 0} (seen : L → LinkView) (st : Status) (plan : CatPlan) (s : SingleView) (e : LinkEndsView L) (p : Player) (start : Beginning) (between net' : NetView) (pace pace' : PaceView) (out out' : SinkView) (record_ : List (Turn Entry)) (r : HasRun seen st plan s e p start between net' pace pace' out out' record_) where
-  -- what is read of the ends in the record is what was read before it was closed
+  -- what the record says about the ends is what it said before the close
   ticks_kept : ticks (past_of record_) ≡ ticks (past_of s.seen)
   ticks_kept = kept ticks ticks_step s.seen record_ r.finished.links
 
   few_ticks : length (ticks (past_of record_)) < 2 ^ 64
   few_ticks = subst (λ (ts : List ℕ). length ts < 2 ^ 64) (sym ticks_kept) r.followed.paced.few
 
-  -- the net, asked by the record
+  -- the net was asked, according to the record
   net_stands : NetStands start (past_of record_) (past_of record_) between e.listeners e.dialers
   net_stands =
       (linkless seen s.setting start between s.seen record_ e r.finished.links r.finished.legal r.run.ends_stand).asked
@@ -141,7 +141,7 @@ module _ {L : Type 0} (seen : L → LinkView) (st : Status) (plan : CatPlan) (s 
   dry_is : has_dry_miss (past_of record_) ≡ true → st ≡ status.NoMemory
   dry_is is = dry_ends st s r.dry (sym (kept has_dry_miss dry_step s.seen record_ r.finished.links) ∙ is)
 
--- why it ended so
+-- why the run ended like this
 ends_for : {L : Type 0} (seen : L → LinkView) (st : Status) (plan : CatPlan) (s : SingleView) (e : LinkEndsView L) (p : Player) (start : Beginning) (between net' : NetView) (pace pace' : PaceView) (out out' : SinkView) (record_ : List (Turn Entry)) (files : FilesView)
     → HasRun seen st plan s e p start between net' pace pace' out out' record_ → EndedFor st s.setting plan (play_of p.script) (past_of record_) (world start.net files pace out) (world net' files pace' out')
 ends_for seen status.Done plan s e p start between net' pace pace' out out' record_ files r = (
@@ -181,7 +181,7 @@ runs seen st plan s e p start between net' pace pace' out out' record_ files dic
       memory = dry_is seen st plan s e p start between net' pace pace' out out' record_ r;
     }
 
--- the same of what is left of a run
+-- the same for what is left of a run
 pub runs_plan : {L : Type 0} (seen : L → LinkView) (st : Status) (plan : CatPlan) (s : SingleView) (e : LinkEndsView L) (p : Player) (start : Beginning) (between net' : NetView) (pace pace' : PaceView) (out out' : SinkView) (record_ : Option (List (Turn Entry))) (files : FilesView) (dice : ℕ) → s.setting ≡ run_setting plan.role dice → IsPlayOf plan files (play_of p.script)
     → RunStands seen start s e p between (is_dry_at s) → IsDryAt st s → Follows st plan.ends s e p start.net between pace pace' out out' → PrintsTo st out.text out'.text s.seen p → FinishesAs seen start s e p between net' record_
     → RunsPlan (run_ways plan.role start.origins) st plan dice record_ (world start.net files pace out) (world net' files pace' out')

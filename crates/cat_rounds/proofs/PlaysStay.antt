@@ -1,4 +1,4 @@
--- What stands of a play stands after turns of which no rule speaks.
+-- What holds of a play still holds after turns that no rule concerns.
 use Rattle.std.proofs.Common.{◌≡◌, refl, ap, sym, ◌∙◌, subst, List, [], ◌∷◌, ◌++◌, Bool, true, false, Some, None, Option}
 use Rattle.turn_lock.specs.declared.turn.Turn.{Turn}
 use Rattle.sp_base.specs.declared.OpName.{OpName}
@@ -26,7 +26,7 @@ pub timed_stays : (receives : Bool) (entries past : List Entry) → is_closed pa
 timed_stays receives entries past open_ none =
     ap (timed_out_in receives) (open_is (onto entries past) (closed_stays entries past none ∙ open_)) ∙ (timed_in_stays receives entries past none ∙ sym (ap (timed_out_in receives) (open_is past open_)))
 
--- whether it is over goes by the count and by what timed out
+-- whether it is over depends only on the count and on what timed out
 pub over_kept : (o : PlayEnd) (z : Setting) (play : Play) (past more : List Entry) → counted z play more ≡ counted z play past → ((receives : Bool) → timed_out receives more ≡ timed_out receives past) → IsOver o z play past → IsOver o z play more
 over_kept overs.Open z play past more count timed h = rw (count, timed true, timed false) h
 over_kept overs.Finished z play past more count timed h = rw (count, timed true) h

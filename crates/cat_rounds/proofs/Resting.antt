@@ -1,4 +1,4 @@
--- When a round says that something moves still.
+-- When a round reports that something still moves.
 use Rattle.std.proofs.Common.{◌≡◌, ◌≤◌, ◌+◌, ◌∷◌, inl, inr, ℕ, Bool, true, false, List, [], length, Option, Some, None, refl, sym, ap, subst, ◌∙◌, arith}
 use Rattle.std.proofs.lemmas.List.{length-append}
 use Rattle.turn_lock.specs.declared.turn.Turn.{Turn}
@@ -34,7 +34,7 @@ kept_is : (a b c d : Option OpName) → c ≡ a → d ≡ b → IsKept a b → I
 kept_is a b c d e f (inl none) = inl (f ∙ none)
 kept_is a b c d e f (inr same) = inr (f ∙ same ∙ sym e)
 
--- what is under way in the hand is so in the history
+-- what is under way in the hand is under way in the history
 pub kept_on : (o : Option OpName) (s s' : SingleView) (p p' : Player) (t : ℕ) → Stands s p t → Stands s' p' t → under_way (past_of s.seen) ≡ o → IsKept p.op p'.op → IsKept o (under_way (past_of s'.seen))
 kept_on o s s' p p' t was now_ same kept = kept_is p.op p'.op o (under_way (past_of s'.seen)) (sym same ∙ hand_is p.op s.seen was.play.hand) (hand_is p'.op s'.seen now_.play.hand) kept
 
@@ -57,7 +57,7 @@ at_rest r s s' s'' took still on kept =
       none_begun = subst (λ (o : Option OpName). IsKept o (under_way (past_of s''.seen))) (under_way_served r s s' took) kept;
     }
 
--- ---- Turns more
+-- ---- Further turns
 
 pub longer : (moves : Entry → Bool) (h h' : List (Turn Entry)) → AddsNone moves h h' → length h ≤ length h'
 longer moves h h' (turns, is, none) = let n = ap length is ∙ length-append h turns in omega (arith, n)

@@ -1,4 +1,4 @@
--- What parts of a round do, one after the other.
+-- What parts of a round do, one after another.
 use Rattle.std.proofs.Common.{◌≡◌, refl, ap, sym, ◌∙◌, subst, inl, inr, List, [], ◌∷◌, ◌++◌, ℕ, ◌≤◌, Bool, true, false, arith, length, Option, Some, None}
 use Rattle.std.specs.Prelude.{IsTrue, ◌&&◌, ◌||◌, not, is_some, nat_lt}
 use Rattle.std.specs.List.{list_any}
@@ -77,7 +77,7 @@ pub served_on : (s s' : SingleView) → GoesOnBy s s' → HasServed s.setting s.
 served_on s s' g was =
     subst (λ (z : Setting). HasServed z s'.seen) (sym g.setting) (keeps_all moves_ends (λ h. HasServed s.setting h) (served_turn s.setting) s.seen s'.seen g.links was)
 
--- ---- One part after the other
+-- ---- One part after another
 
 pub goes_nowhere : (a : SingleView) → GoesOnBy a a
 goes_nowhere a = record { setting = refl; links = adds_nothing moves_ends a.seen }
@@ -85,7 +85,7 @@ goes_nowhere a = record { setting = refl; links = adds_nothing moves_ends a.seen
 pub goes_then : (a b c : SingleView) → GoesOnBy a b → GoesOnBy b c → GoesOnBy a c
 goes_then a b c g h = record { setting = h.setting ∙ g.setting; links = adds_then moves_ends a.seen b.seen c.seen g.links h.links }
 
--- a part of a round that went well
+-- a part of a round that succeeded
 pub record Along (s s' : SingleView) (p p' : Player) (out out' : SinkView) : Type 0 where
   pub goes_on : GoesOnBy s s'
   pub script : SameScript p p'
@@ -146,7 +146,7 @@ pub serving_linkless : (es : List Entry) → AreServing es → none_of moves_end
 serving_linkless [] s = refl
 serving_linkless (e ∷ es) s = rw (serving_ends e s.0) (serving_linkless es s.1)
 
--- what a turn that serves says
+-- what a turn that serves states
 abbrev pub ServesSo : Served → Setting → List (Turn Entry) → Turn Entry → Type 0
 ServesSo r z h t =
     IsSwept z (past_of h) t × AreFlushed (past_of h) t × IsServeTurn t × ServedBy r t × (r.up ≡ length (up (past_of (h ++ t ∷ []))))

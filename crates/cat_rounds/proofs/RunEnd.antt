@@ -33,7 +33,7 @@ use Rattle.cat_rounds.proofs.ClosedPlays.{IsClosedPlay, closing_play, close_link
 use Rattle.cat_rounds.proofs.WrittenBeforeClose.{closed_cleared}
 use Rattle.cat_rounds.proofs.Uncancelled.{uncancelled_each, due_each}
 
--- what is under way stays so with the close
+-- what is under way stays under way with the close
 pub hand_closed : (op : Option OpName) (callers : ℕ) (h : List (Turn Entry)) (t : Turn Entry) → ClosesSo callers (past_of h) t → ((o : OpName) → IsOpen 1 o h → IsOpen 1 o (h ++ t ∷ [])) → IsUnderWay op h → IsUnderWay op (h ++ t ∷ [])
 hand_closed op callers h t c keeps was = go op was
   where
@@ -59,7 +59,7 @@ module _ (totals : Totals) (s s' s'' : SingleView) (p : Player) (record_ : List 
   abbrev base : List (Turn Entry)
   base = s.seen ++ e.closing.turn ∷ []
 
-  -- its turns behind the close
+  -- its turns after the close
   begins_none : AddsNone begins_or_ticks base record_
   begins_none =
       subst (λ (h : List (Turn Entry)). AddsNone begins_or_ticks h record_) e.closing.seen (subst (λ (h : List (Turn Entry)). AddsNone begins_or_ticks s'.seen h) (sym e.whole) e.last.turns)
@@ -84,7 +84,7 @@ module _ (totals : Totals) (s s' s'' : SingleView) (p : Player) (record_ : List 
   all_cleared cleared =
       closed_cleared s.setting totals s.setting.callers begins_or_ticks s.seen e.closing.turn record_ e.sound.legal e.play.is_open cleared e.closing.said begins_none legal_record
 
-  -- what stood on the links stands
+  -- what held of the links still holds
   pub ends_stand : {L : Type 0} (seen : L → LinkView) (start : Beginning) (net : NetView) (ends : LinkEndsView L) → EndsStand seen s.setting start s.seen net ends → EndsStand seen s.setting start record_ net ends
   ends_stand seen start net ends was =
       linkless seen s.setting start net s.seen record_ ends links_none legal_record was

@@ -1,4 +1,4 @@
--- What settling records moves no play and no link.
+-- Settling entries move no play and no link.
 use Rattle.std.proofs.Common.{◌≡◌, refl, List, [], ◌∷◌, ◌++◌, Bool, true, false}
 use Rattle.std.specs.Prelude.{not, ◌&&◌}
 use Rattle.sp_history.specs.declared.entry.Entry.{Entry}

@@ -1,4 +1,4 @@
--- What turns without an entry of which a rule speaks leave of a play.
+-- What turns without an entry that a rule concerns leave of a play.
 use Rattle.std.proofs.Common.{◌≡◌, refl, ap, sym, ◌∙◌, subst, List, [], ◌∷◌, ◌++◌, Bool, true, false, append_assoc}
 use Rattle.std.specs.Prelude.{◌&&◌, ◌||◌, reverse, IsTrue}
 use Rattle.std.specs.List.{list_all}
@@ -44,7 +44,7 @@ keeps_all moves P step h h' (turns, is, none) p = subst P (sym is) (go h turns n
     go g (t ∷ turns) none p =
         subst P (append_assoc g (t ∷ []) turns) (go (g ++ t ∷ []) turns (rest_of (none_of moves t.entries) _ none) (step g t (first_of (none_of moves t.entries) _ none) p))
 
--- no turn more, one, and more after more
+-- no further turn, one turn, and more after more
 pub adds_nothing : (moves : Entry → Bool) (h : List (Turn Entry)) → AddsNone moves h h
 adds_nothing moves h = ([], sym (append_nil h), refl)
 

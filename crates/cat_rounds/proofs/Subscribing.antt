@@ -1,4 +1,4 @@
--- Topics are put on before the first round.
+-- Topics are added before the first round.
 use Rattle.std.proofs.Common.{◌≡◌, refl, ap, sym, ◌∙◌, subst, List, [], ◌∷◌, ◌++◌, ℕ, zero, suc, get_or, ◌≤◌, ◌<◌, ◌+◌, Bool, true, false, arith, length, take, Option, Some, None, Ok, Err, inl, inr}
 use Rattle.std.specs.Prelude.{◌⊎◌, ◌==◌, ◌||◌, ◌&&◌, IsTrue}
 use Rattle.std.specs.List.{list_any, list_all, AllByRecursion}
@@ -106,7 +106,7 @@ module _ {says : Setting → List (Turn Entry) → Turn Entry → Type 0} (s s' 
         stays_on = λ u on. ap (λ (ts : List (List ℕ)). has_topic ts u) (silent_topics none) ∙ on;
       }
 
--- ---- A turn that puts a topic on
+-- ---- A turn that adds a topic
 
 first_or : (a b : Bool) → a ≡ true → (a || b) ≡ true
 first_or true b e = refl
@@ -191,7 +191,7 @@ module _ {says : Setting → List (Turn Entry) → Turn Entry → Type 0} (s s' 
 
 -- ---- One topic
 
--- it was on, or it is put on
+-- it was there, or it is added
 pub subscribed : (s s' : SingleView) (p : Player) (u : List ℕ) → TookOne (λ z h t. SubscribedBy (Ok tt) z h t 0 u) s s' → IsBefore s p → has_topic p.script.topics u ≡ true → Prepares s s' p × (has_topic (topics (past_of s'.seen) 0) u ≡ true)
 subscribed s s' p u took was planned = go took.said.2
   where
@@ -212,7 +212,7 @@ no_entry s s' p u why is was took = refused (subst (λ (e : TopicError). AreSett
 
 -- ---- All of them
 
--- where the topics stay on, those that were on are
+-- where the topics stay, those that were there still are
 pub are_still_on : (ts us vs : List (List ℕ)) → ((t : List ℕ) → has_topic us t ≡ true → has_topic vs t ≡ true) → IsTrue (list_all (has_topic us) ts) → IsTrue (list_all (has_topic vs) ts)
 are_still_on [] us vs keep on = refl
 are_still_on (t ∷ ts) us vs keep on =
@@ -226,7 +226,7 @@ are_still_on (t ∷ ts) us vs keep on =
     rest_of true b h = h
     rest_of false b h = cc
 
--- one more is on
+-- one more topic is there
 pub on_next : (ts us : List (List ℕ)) (i : ℕ) (t : List ℕ) → i < length ts → t ≡ get_or ts i t → IsTrue (list_all (has_topic us) (take i ts)) → has_topic us t ≡ true → IsTrue (list_all (has_topic us) (take (i + 1) ts))
 on_next ts us i t l e on here =
     list_all_more (has_topic us) ts i t l ∙ both (list_all (has_topic us) (take i ts)) (has_topic us (get_or ts i t)) on (ap (has_topic us) (sym e) ∙ here)
@@ -244,7 +244,7 @@ is_short [] i t l e all = absurd (omega (arith, l))
 is_short (u ∷ ts) zero t l e all = subst (λ (v : List ℕ). length v ≤ 1024) (sym e) all.0
 is_short (u ∷ ts) (suc i) t l e all = is_short ts i t (omega (arith, l)) e all.1
 
--- a socket that takes topics where there are some
+-- the socket takes topics, where there are some
 pub is_supported : (z : Setting) (ts : List (List ℕ)) (i : ℕ) → i < length ts → CanSubscribe z ts → IsTrue (has_topics z)
 is_supported z ts i l can = go (has_topics z) can.supported
   where
@@ -271,7 +271,7 @@ fresh_before s p empty play sound =
     none None u = refl
     none (Some op) u = let bad = u.0 in cc
 
--- the run stands on after them
+-- what holds of the run still holds after them
 pub prepared_run : {L : Type 0} (seen : L → LinkView) (start : Beginning) (net : NetView) (s s' : SingleView) (e : LinkEndsView L) (p : Player) → Prepares s s' p → RunStands seen start s e p net false → RunStands seen start s' e p net false
 prepared_run seen start net s s' e p g run = run_linkless seen start net s s' e p g.goes_on g.before.play g.before.sound run.dry run.ends_stand
 

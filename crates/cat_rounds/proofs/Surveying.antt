@@ -1,4 +1,4 @@
--- A surveyor knows from its last send and from what time it is whether its survey is live.
+-- A surveyor knows from its last send and the time whether its survey is live.
 use Rattle.std.proofs.Common.{◌≡◌, refl, ap, sym, ◌∙◌, subst, List, [], ◌∷◌, ◌++◌, ℕ, ◌+◌, ◌≤◌, Bool, true, false, arith, Some, None, Option}
 use Rattle.std.specs.Prelude.{drop, map, max, if◌then◌else◌, not, ◌&&◌, ◌==◌, IsTrue, filter, find, is_some, nat_le, ⊤}
 use Rattle.std.proofs.lemmas.Bool.Decides.{nat_tests}
@@ -37,7 +37,7 @@ use Rattle.cat_rounds.specs.declared.player.Player.{Player}
 use Rattle.cat_rounds.specs.Lasting.{play_of, PlayStands, IsLast, HasSurveys, is_survey_over}
 use Rattle.cat_rounds.specs.PlayerSteps.{Stands}
 
--- ---- The table asks for the survey of a surveyor alone
+-- ---- The table asks only for the survey of a surveyor
 
 pub next_by_last : (role : Role) → is_surveyor role ≡ false → (b r s : Bool) (last : Option Ending) → receives_next role b r last ≡ receives_next role b s last
 next_by_last roles.Surveyor h b r s last = cc
@@ -47,7 +47,7 @@ pub counts_by_last : (role : Role) → is_surveyor role ≡ false → (b r s : B
 counts_by_last roles.Surveyor h b r s last = cc
 counts_by_last _ h b r s last = refl
 
--- the same result about the survey, where it is a surveyor's, leaves the table
+-- the result about the survey, which is the same where it is a surveyor's, leaves the table unchanged
 abbrev pub SameSurvey : Role → Bool → Bool → Type 0
 SameSurvey role r s = is_surveyor role ≡ true → r ≡ s
 
@@ -65,7 +65,7 @@ counts_same role b r s last same = go (is_surveyor role) refl
     go true e = ap (λ y. counts_for role b y last) (same e)
     go false e = counts_by_last role e b r s last
 
--- ---- Entries that leave a survey as it is
+-- ---- Entries that leave a survey unchanged
 
 cooked_asks : (raw a b : Bool) → (raw ≡ false → a ≡ b) → (not a && not raw) ≡ (not b && not raw)
 cooked_asks false a b same = ap (λ x. not x && true) (same refl)
@@ -117,9 +117,9 @@ next_stays z play entries past role none same =
     ap (λ last. receives_next play.role (is_some play.body) (asks_anew z (onto entries past)) last) same
     ∙ next_same play.role (is_some play.body) (asks_anew z (onto entries past)) (asks_anew z past) (last_result past) (λ s. asks_stay z entries past (ap is_surveyor role ∙ s) (silent_surveys entries none))
 
--- ---- Which survey is live
+-- ---- The survey that is live
 
--- there is none, or one on context 0 that was begun at this moment
+-- there is none, or one on context 0 that began at this moment
 abbrev IsShape : Option ℕ → List LiveRequest → Type 0
 IsShape None [] = ⊤
 IsShape None (r ∷ rs) = ⊥
@@ -127,12 +127,12 @@ IsShape (Some since) [] = ⊥
 IsShape (Some since) (r ∷ []) = (r.ctx ≡ 0) × (r.birth ≡ since)
 IsShape (Some since) (r ∷ x ∷ rs) = ⊥
 
--- the moment of the last send, until its time is over
+-- the moment of the last send, until its time has passed
 abbrev alive : Option ℕ → ℕ → Option ℕ
 alive None t = None
 alive (Some since) t = if nat_le (since + 1000) t then None else Some since
 
--- a change that leaves context and birth
+-- a change that leaves context and birth unchanged
 shape_map : (f : LiveRequest → LiveRequest) → ((r : LiveRequest) → (f r).ctx ≡ r.ctx) → ((r : LiveRequest) → (f r).birth ≡ r.birth) → (o : Option ℕ) (rs : List LiveRequest) → IsShape o rs → IsShape o (map f rs)
 shape_map f c b None [] s = s
 shape_map f c b None (r ∷ rs) s = s
@@ -179,7 +179,7 @@ shape_end z other (Won (Received m)) (Some s) ss rs o h =
     rw other (shape_map (with_taken s.ctx) (taken_ctx s.ctx) (taken_birth s.ctx) o rs.live h)
 shape_end z other (Gone cause by) (Some s) ss rs o h = rw other h
 
--- time goes on
+-- time passes
 shape_ticks : (z : Setting) → is_req z.role ≡ false → z.options.survey ≡ 1000 → (since : Option ℕ) (t n : ℕ) (ss : List Begun) (rs : Requests) → t ≤ n → IsShape (alive since t) rs.live → IsShape (alive since n) (after_moment z n ss rs).live
 unfolding after_moment
 shape_ticks z other time None t n ss rs later h = rw other (none rs.live h)
@@ -301,7 +301,7 @@ asks_live _ s z past cooked = cc
 live_found : (z : Setting) (past : List Entry) (o : Option ℕ) → has_requests z ≡ true → IsShape o (asked z past).live → is_some (live_on z past 0) ≡ is_some o
 live_found z past o yes_ s = subst (λ (b : Bool). is_some (find (is_on 0) (if b then asked z past else no_requests).live) ≡ is_some o) (sym yes_) (found o (asked z past).live s)
 
--- no survey is live, just where none was begun or the time of the last is over
+-- no survey is live exactly where none was begun or the time of the last one has passed
 survey_is : (z : Setting) (play : Play) (past : List Entry) → HasSurveys z → is_surveyor z.role ≡ true → Plain z play past → asks_anew z past ≡ is_survey_over (last_send past) (now past)
 survey_is z play past has_ s p =
     asks_live z.role s z past has_.cooked

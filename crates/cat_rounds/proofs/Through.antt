@@ -1,4 +1,4 @@
--- A turn with one begin or one collecting, and beside it silent entries: what is then said of the play.
+-- A turn with one begin or one collecting, and otherwise silent entries: what then holds of the play.
 use Rattle.std.proofs.Common.{◌≡◌, refl, ap, sym, ◌∙◌, subst, List, [], ◌∷◌, ◌++◌, ℕ, ◌+◌, ◌≤◌, Bool, true, false, arith, Option, Some, None}
 use Rattle.std.specs.Prelude.{not, ◌&&◌, ◌||◌, if◌then◌else◌, is_some}
 use Rattle.std.proofs.lemmas.Bool.Decides.{nat_tests}
@@ -38,19 +38,19 @@ pub turn_past : (h : List (Turn Entry)) (t : Turn Entry) (early late : List Entr
 turn_past h t early late e is =
     past_of-append h t ∙ (ap (λ es. onto es (past_of h)) is ∙ onto-append early (e ∷ late) (past_of h))
 
--- what the entry leaves, the turn leaves
+-- what the entry leaves unchanged, the turn leaves unchanged
 pub through : {A : Type 0} (f : List Entry → A) → ((entries past : List Entry) → none_of moves_calls entries ≡ true → f (onto entries past) ≡ f past)
     → (h : List (Turn Entry)) (t : Turn Entry) (e : Entry) (early late : List Entry) → HasOne e t early late → f (e ∷ onto early (past_of h)) ≡ f (onto early (past_of h)) → f (past_of (h ++ t ∷ [])) ≡ f (past_of h)
 through f stay h t e early late one mid =
     ap f (turn_past h t early late e one.stands) ∙ (stay late (e ∷ onto early (past_of h)) one.after ∙ (mid ∙ stay early (past_of h) one.before))
 
--- what the entry makes, the turn makes
+-- what the entry changes, the turn changes
 pub upon : {A : Type 0} (f : List Entry → A) → ((entries past : List Entry) → none_of moves_calls entries ≡ true → f (onto entries past) ≡ f past)
     → (h : List (Turn Entry)) (t : Turn Entry) (e : Entry) (early late : List Entry) → HasOne e t early late → f (past_of (h ++ t ∷ [])) ≡ f (e ∷ onto early (past_of h))
 upon f stay h t e early late one =
     ap f (turn_past h t early late e one.stands) ∙ stay late (e ∷ onto early (past_of h)) one.after
 
--- ---- What one entry more counts, prints and ends, by the whole past where it is open
+-- ---- What one more entry counts, prints and ends, by the whole past where it is open
 
 count_step : (z : Setting) (play : Play) (e : Entry) (past : List Entry) → moves_calls e ≡ false → count_in z play (e ∷ past) ≡ count_in z play past
 count_step z play (Took op k) past h = cc
@@ -132,7 +132,7 @@ begin_leaves z play h t early late op k c act d one open_ =
     over_in_stays entries past none =
         rw (count_in_stays z play entries past none, timed_in_stays true entries past none, timed_in_stays false entries past none) refl
 
--- a turn that begins a send notes its moment
+-- a turn that begins a send records its moment
 pub send_notes : (h : List (Turn Entry)) (t : Turn Entry) (early late : List Entry) (op : OpName) (k c : ℕ) (act : RecordedAct) (d : Option ℕ)
     → HasOne (Begin op k c act d) t early late → is_kind false (Some act) ≡ true → last_send (past_of (h ++ t ∷ [])) ≡ Some (now (past_of h))
 send_notes h t early late op k c Recv d one kind = cc
@@ -189,7 +189,7 @@ begin_may z play past entries op k act d none may =
     spaced_kept Recv h = refl
     spaced_kept (Send m) h = rw (last_send_stays entries past none, now_stays entries past none) h
 
--- so the play goes on with the turn
+-- so the turn continues the play
 pub begin_goes_on : (z : Setting) (play : Play) (h : List (Turn Entry)) (t : Turn Entry) (early late : List Entry) (op : OpName) (k : ℕ) (act : RecordedAct) (d : Option ℕ)
     → HasOne (Begin op k 0 act d) t early late → MayBeginNow z play (past_of h) op k act d → PlaysSoFar z play h → PlaysSoFar z play (h ++ t ∷ [])
 begin_goes_on z play h t early late op k act d one may was =
@@ -197,7 +197,7 @@ begin_goes_on z play h t early late op k act d one may was =
 
 -- ---- A collecting
 
--- what a turn leaves that collects the operation, which ended so
+-- what a turn leaves that collects the operation, which ended like this
 pub record TookLeaves (z : Setting) (play : Play) (op : OpName) (ending : Ending) (h h' : List (Turn Entry)) : Type 0 where
   pub open_ : is_closed (past_of h') ≡ false
   pub free : under_way (past_of h') ≡ None
@@ -221,7 +221,7 @@ ended_before z past op k allowed = uncollected_has_end past op (itself allowed.0
     itself : ((j : ℕ) × Allowed z j past (Took op k)) → is_uncollected past op ≡ true
     itself (j, a) = a.itself.2
 
--- and the end that is found at last was found then
+-- and the end that is found last was found then
 ended_so : (z : Setting) (h : List (Turn Entry)) (t : Turn Entry) (early late : List Entry) (op : OpName) (k : ℕ) (ending : Ending)
     → Legal z (h ++ t ∷ []) → HasOne (Took op k) t early late → end_of (past_of (h ++ t ∷ [])) op ≡ Some ending → end_of (onto early (past_of h)) op ≡ Some ending
 ended_so z h t early late op k ending legal one found = go (end_of (onto early (past_of h)) op) refl some

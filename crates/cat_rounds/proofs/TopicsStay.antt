@@ -1,4 +1,4 @@
--- Turns without topics leave those that are on.
+-- Turns without topics leave the topics unchanged.
 use Rattle.std.proofs.Common.{◌≡◌, refl, ap, sym, ◌∙◌, subst, List, [], ◌∷◌, ◌++◌, ℕ, true, false}
 use Rattle.std.specs.Prelude.{IsTrue}
 use Rattle.std.specs.List.{list_all}
@@ -21,11 +21,11 @@ topics_step _ past h = refl
 pub topics_stay : (entries past : List Entry) → none_of moves_calls entries ≡ true → topics (onto entries past) 0 ≡ topics past 0
 topics_stay = stays (λ past. topics past 0) topics_step
 
--- where the same topics are on, these still are
+-- where the same topics are there, these still are
 pub still_on : (ts : List (List ℕ)) (past more : List Entry) → topics more 0 ≡ topics past 0 → AreOn ts past → AreOn ts more
 still_on ts past more same on = subst (λ (us : List (List ℕ)). IsTrue (list_all (has_topic us) ts)) (sym same) on
 
--- so they are after a turn of which no rule speaks
+-- so they are after a turn that no rule concerns
 pub on_turn : (ts : List (List ℕ)) (h : List (Turn Entry)) (t : Turn Entry) → none_of moves_calls t.entries ≡ true → AreOn ts (past_of h) → AreOn ts (past_of (h ++ t ∷ []))
 on_turn ts h t none on =
     still_on ts (past_of h) (past_of (h ++ t ∷ [])) (ap (λ (past : List Entry). topics past 0) (past_of-append h t) ∙ topics_stay t.entries (past_of h) none) on

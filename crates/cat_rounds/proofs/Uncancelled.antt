@@ -1,4 +1,4 @@
--- What a finished socket says of what was cancelled and of what timed out, as rules of each entry.
+-- What a finished socket shows about what was cancelled and what timed out, as rules of each entry.
 use Rattle.std.proofs.Common.{◌≡◌, inl, inr, refl, sym, subst, List, [], ◌∷◌, ◌++◌, ℕ, Bool, true, false}
 use Rattle.std.specs.Prelude.{◌||◌, IsTrue, if◌then◌else◌}
 use Rattle.std.specs.List.{list_any}

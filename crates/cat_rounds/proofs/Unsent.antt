@@ -86,7 +86,7 @@ silent_next : (z : Setting) (e : Entry) (past : List Entry) → is_begin e ≡ f
 silent_next z e past b (inl never) = inl never
 silent_next z e past b (inr none) = inr (requests_none z e past b none)
 
--- a req alone sends again
+-- only a req sends again
 pub sends_once : (z : Setting) → is_req z.role ≡ false → resends z ≡ false
 sends_once z other = rw other refl
 

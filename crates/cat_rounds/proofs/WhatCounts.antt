@@ -41,7 +41,7 @@ none_counts : (role : Role) (b over : Bool) → counts_for role b over None ≡ 
 none_counts roles.Surveyor b over = refl
 none_counts _ b over = refl
 
--- it counts just where the table says so
+-- it counts exactly where the table says so
 pub counts_is : (s : Script) (is_over : Bool) (last : LastCollected) (result : Bool) → ((r : Option Ending) → IsLast last r → result ≡ counts_for s.role (is_some s.body) is_over r) → result ≡ counts_for_last s is_over last
 counts_is s is_over lasts.Nothing result h = h None refl ∙ none_counts s.role (is_some s.body) is_over
 counts_is s is_over lasts.Received result h =

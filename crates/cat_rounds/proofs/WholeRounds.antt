@@ -42,14 +42,14 @@ use Rattle.cat_rounds.proofs.PlayTicks.{first_tick, ticked_play, ticked_now, tic
 
 -- ---- The tick
 
--- what a round asks for
+-- what a round requires
 pub record MayRound {L : Type 0} (seen : L → LinkView) (net : NetView) (r : RunPartsView L) (n : ℕ) : Type 0 where
   pub stands : RunIsOpen seen r net
   pub may_tick : MayTick r.single.setting r.single.seen r.player
   pub later : past_now r.single ≤ n
   pub late : IsLateBy 0 r.single r.player
 
--- the run behind the tick of a round
+-- the run after the tick of a round
 pub record HasTicked {L : Type 0} (seen : L → LinkView) (start : Beginning) (net : NetView) (s s' : SingleView) (e : LinkEndsView L) (p : Player) (n : ℕ) : Type 0 where
   pub links : EndsTicked seen s'.setting start s'.seen net e
   pub stands : Stands s' p n
@@ -106,7 +106,7 @@ prints_on before text s s' p same had = had ∙ ap (λ (ts : List (List ℕ)). g
 pub quiet_ticks : (s s' : SingleView) → Quietly s s' → length (ticks (past_of s'.seen)) ≡ length (ticks (past_of s.seen))
 quiet_ticks s s' q = keeps_all moves_calls (λ g. length (ticks (past_of g)) ≡ length (ticks (past_of s.seen))) (ticks_turn (length (ticks (past_of s.seen)))) s.seen s'.seen q.silent refl
 
--- what goes on leaves the ends and the registry
+-- what goes on leaves the ends and the registry unchanged
 pub names_then : {L : Type 0} (n : ℕ) (a b c : EndsView L) (r s t : Registry) → c ≡ b → t ≡ s → TurnsNames n a b r s → TurnsNames n a c r t
 names_then n a b c r s t e f x = subst (λ (v : EndsView _). TurnsNames n a v r t) (sym e) (subst (λ (q : Registry). TurnsNames n a b r q) (sym f) x)
 
@@ -141,7 +141,7 @@ on_dry is_dry s s' g was = keeps_all moves_ends (λ h. has_dry_miss (past_of h) 
     step : (h : List (Turn Entry)) (t : Turn Entry) → none_of moves_ends t.entries ≡ true → has_dry_miss (past_of h) ≡ is_dry → has_dry_miss (past_of (h ++ t ∷ [])) ≡ is_dry
     step h t none was = ap has_dry_miss (past_of-append h t) ∙ (dry_stays t.entries (past_of h) none ∙ was)
 
--- the run stands on after turns that move no link
+-- what holds of the run still holds after turns that move no link
 pub run_linkless : {L : Type 0} (seen : L → LinkView) (start : Beginning) (net : NetView) (s s' : SingleView) (e : LinkEndsView L) (p : Player) → GoesOnBy s s' → PlayStands s'.setting s'.seen p → IsSound s' → IsDry false s → EndsStand seen s.setting start s.seen net e → RunStands seen start s' e p net false
 run_linkless seen start net s s' e p g play sound dry ends =
     record {
@@ -151,12 +151,12 @@ run_linkless seen start net s s' e p g play sound dry ends =
       dry = on_dry false s s' g dry;
     }
 
--- the run stands on, once the play has gone on
+-- what holds of the run still holds once the play has gone on
 pub run_on : {L : Type 0} (seen : L → LinkView) (start : Beginning) (net : NetView) (s s' : SingleView) (e e' : EndsView L) (p : Player) → GoesOnBy s s' → e' ≡ e → IsRunning s' p → IsDry false s → EndsStand seen s.setting start s.seen net e.links → RunStands seen start s' e'.links p net false
 run_on seen start net s s' e e' p g same running dry ends =
     subst (λ (x : EndsView _). RunStands seen start s' x.links p net false) (sym same) (run_linkless seen start net s s' e.links p g running.play running.sound dry ends)
 
--- ---- What a round comes to
+-- ---- The result of a round
 
 -- it is the same run
 pub same_played : {L : Type 0} (r r' : RunPartsView L) (s : SingleView) (e : EndsView L) → SameEnds r.ends.links e.links → s.setting ≡ r.single.setting → r'.ends ≡ e → SameScript r.player r'.player → r'.single.setting ≡ s.setting → SameRun r r'
@@ -185,6 +185,6 @@ round_prints (rounds.Ends status.OutFault) before now h p o n f = absurd (o refl
 round_prints (rounds.Ends status.FileFault) before now h p o n f = f
 round_prints (rounds.Ends status.NoMemory) before now h p o n f = absurd (n refl)
 
--- where all is printed, so much is
+-- where all is printed, nothing is cut short
 pub cut_nowhere : (before now : Option (List ℕ)) (h : List (Turn Entry)) (p : Player) → HasPrinted before now h p → HasPrintedCut before now h p
 cut_nowhere before now h p f = (joined (texts (play_of p.script) (past_of h)), inl refl, f)

@@ -96,7 +96,7 @@ all_cleared [] es is past p h = rw is h
 all_cleared (q ∷ ps) es (downs, rest, is, went_down, more) past p h =
     rw (is, onto-append downs rest past) (all_cleared ps rest more (onto downs past) p (one_cleared q downs went_down past p h))
 
--- ---- The turns behind it
+-- ---- The turns after it
 
 same_onto : {A : Type 0} (f : List Entry → A) → ((e : Entry) (past : List Entry) → comes_after_close e ≡ true → f (e ∷ past) ≡ f past) → (z : Setting) (k : ℕ) (past es : List Entry) → is_closed past ≡ true → Follows z k past es → f (onto es past) ≡ f past
 same_onto f step z k past [] closed legal = refl

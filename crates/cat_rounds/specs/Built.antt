@@ -1,4 +1,4 @@
--- Which plans can be played, and how a run of one begins and ends.
+-- The plans that can be played, and how a run of one begins and ends.
 use Rattle.std.specs.Prelude.{◌≡◌, ◌≤◌, ◌==◌, [], ◌⊎◌, ◌||◌, not, ℕ, ⊤, true, false, Bool, IsTrue, List, length, Result, Option, Some, None, ◌∷◌}
 use Rattle.std.specs.List.{AllByRecursion}
 use Rattle.turn_lock.specs.declared.turn.Turn.{Turn}
@@ -70,7 +70,7 @@ pub record AreTopics (role : Role) (ts : List (List ℕ)) : Type 0 where
   pub supported : IsTrue (is_sub role || (length ts == 0))
   pub short : AllByRecursion (λ t. length t ≤ 1024) ts
 
--- a plan that can be played: its addresses can be dialed, its socket takes its topics, and its data stand in its words
+-- a plan that can be played: its addresses can be dialed, its socket takes its topics, and its data are in its words
 pub record IsBuilt (plan : CatPlan) : Type 0 where
   pub ends_built : AreBuilt plan.ends
   pub data_built : IsBuiltData plan.data_
@@ -78,11 +78,11 @@ pub record IsBuilt (plan : CatPlan) : Type 0 where
   -- what is sent has a body
   pub carries : IsTrue (not (needs_data plan.role) || has_data plan.data_)
 
--- a machine as good as new, whose socket has the setting of the run
+-- a machine in its initial state, whose socket has the setting of the run
 abbrev pub IsMachineOf : {M : Type 0} → (M → Moment → Type 0) → Role → ℕ → M → Type 0
 IsMachineOf ties role dice m = (k : Kind) × Starts ties m k × (setting_of k 16 1 ≡ run_setting role dice)
 
--- what sends carry
+-- the body that sends carry
 abbrev pub IsBody : Data → Option (List ℕ) → Type 0
 IsBody datas.None body = body ≡ None
 IsBody (datas.Text text) body = body ≡ Some text
@@ -102,7 +102,7 @@ dial_addrs [] = []
 dial_addrs (ends.Listen addr ∷ es) = dial_addrs es
 dial_addrs (ends.Dial addr ∷ es) = addr ∷ dial_addrs es
 
--- from the ends of the plan, with keys that are made from this number
+-- the ends of the plan, with keys that are made from this number
 abbrev pub origins_of : CatPlan → ℕ → Origins
 origins_of plan dice = record { listens = listen_addrs plan.ends; dials = dial_addrs plan.ends; dice = dice }
 
@@ -121,26 +121,27 @@ listen_names (ends.Listen (addrs.Ws host port path) ∷ es) = listen_names es
 listen_names (ends.Listen (addrs.Inproc name) ∷ es) = name ∷ listen_names es
 listen_names (ends.Dial addr ∷ es) = listen_names es
 
--- one end more
+-- one more end
 abbrev pub AddsEnd : {L : Type 0} → Result (Unit {0}) EndError → End → EndsView L → EndsView L → NetView → NetView → Registry → Registry → Type 0
 AddsEnd result (ends.Listen addr) old new net net' reg reg' = ListensAlso result addr old new net net' reg reg'
 AddsEnd result (ends.Dial addr) old new net net' reg reg' = DialsAlso result addr old new × (net' ≡ net) × (reg' ≡ reg)
 
--- why it ended so: the net failed to listen before the first round, or a name is listened on twice, or the rounds ended so
+-- why it ended like this: the net failed to listen before the first round, or a name is listened on twice, or the
+-- rounds ended like this
 abbrev pub EndsFor : Status → List End → SingleView → Player → NetView → NetView → PaceView → PaceView → SinkView → SinkView → Type 0
 EndsFor status.NetFault es s p net net' pace pace' out out' =
     (Rose net.faults net'.faults ⊎ ListensTwice es) × (net'.opened ≡ net.opened) × (pace'.left ≡ pace.left)
 EndsFor result es s p net net' pace pace' out out' = WentOrOver result s p out out' pace'
 
--- of a plan that listens twice on one name a run has no other end: the net is at fault, there is no memory, or its file
--- can't be read
+-- a run of a plan that listens twice on one name can end only like this: the net is at fault, there is no memory, or
+-- its file can't be read
 abbrev pub ListensOnce : Status → List End → Type 0
 ListensOnce status.NetFault es = ⊤
 ListensOnce status.NoMemory es = ⊤
 ListensOnce status.FileFault es = ⊤
 ListensOnce _ es = ListensTwice es → ⊥
 
--- the plan was followed until it ended so, with all its ends, or before the first turn of the socket
+-- the plan was followed until it ended like this, with all its ends, or before the first turn of the socket
 pub record Follows {L : Type 0} (result : Status) (es : List End) (s : SingleView) (e : LinkEndsView L) (p : Player) (net net' : NetView) (pace pace' : PaceView) (out out' : SinkView) : Type 0 where
   pub why : EndsFor result es s p net net' pace pace' out out'
   pub paced : PacedTo result pace pace' (past_of s.seen)
@@ -160,7 +161,7 @@ FollowsOn seen es r r' net net' =
 
 -- ---- The end
 
--- a closed, finished run: its record is the history and turns that move no link and no tick; it is a play, of which the
+-- a closed, finished run: its record is the history and turns that move no link and no tick; it is a play, in which the
 -- same counts, is printed and timed out; its links are left
 pub record FinishesTo {L : Type 0} (seen : L → LinkView) (start : Beginning) (s : SingleView) (e : LinkEndsView L) (p : Player) (net net' : NetView) (record_ : List (Turn Entry)) : Type 0 where
   pub links : AddsNone moves_ends s.seen record_

@@ -1,4 +1,4 @@
--- What stands of a play while it goes on.
+-- What holds of a play while it goes on.
 use Rattle.std.specs.Prelude.{◌≡◌, ◌+◌, nat_le, ◌||◌, not, ℕ, zero, ⊤, true, false, Bool, IsTrue, List, reverse, Option, Some, None, is_some}
 use Rattle.std.specs.List.{list_all}
 use Rattle.turn_lock.specs.declared.turn.Turn.{Turn}
@@ -37,7 +37,7 @@ pub record HasSurveys (z : Setting) : Type 0 where
   pub cooked : z.raw ≡ false
   pub time : z.options.survey ≡ 1000
 
--- no survey was begun, or the time of the last one is over
+-- no survey was begun, or the time of the last one has passed
 abbrev pub is_survey_over : Option ℕ → ℕ → Bool
 is_survey_over None t = true
 is_survey_over (Some since) t = nat_le (since + 1000) t
@@ -54,19 +54,19 @@ IsLast lasts.Gone (Some (Gone SurveyOver by)) = ⊥
 IsLast lasts.Gone (Some (Gone cause by)) = ⊤
 IsLast _ _ = ⊥
 
--- so many items more are to be counted
+-- how many more items are to be counted
 abbrev pub IsDue : Option ℕ → Option ℕ → ℕ → Type 0
 IsDue None due n = due ≡ None
 IsDue (Some count) None n = ⊥
 IsDue (Some count) (Some due) n = n + due ≡ count
 
--- whether the play is over, and why
+-- the play is over, and why, or it isn't
 abbrev pub IsOver : PlayEnd → Setting → Play → List Entry → Type 0
 IsOver overs.Open z play past = over z play past ≡ false
 IsOver overs.Finished z play past = IsTrue (has_reached play.count (counted z play past) || timed_out true past)
 IsOver overs.SendTimedOut z play past = IsTrue (timed_out false past)
 
--- the operation under way is open, and the caller's
+-- the operation under way is open, and belongs to the caller
 abbrev pub IsUnderWay : Option OpName → List (Turn Entry) → Type 0
 IsUnderWay None h = under_way (past_of h) ≡ None
 IsUnderWay (Some op) h = (under_way (past_of h) ≡ Some op) × IsOpen 1 op h

@@ -12,16 +12,16 @@ use Rattle.cat_rounds.specs.Lasting.{play_of}
 abbrev pub late_at : SingleView → Player → ℕ
 late_at s p = late_ticks s.setting (play_of p.script) (past_of s.seen)
 
--- each of them, but so many, had a turn in which a pipe could not write all
+-- each of these ticks, except n, had a turn in which a pipe could not write all
 abbrev pub IsLateBy : ℕ → SingleView → Player → Type 0
 IsLateBy n s p = late_at s p ≤ stalled_turns s.seen + n
 
--- each of them after a round that goes on, and each but one at the end
+-- all of them after a round that goes on, and all except one at the end
 abbrev pub RoundIsLate : Round → SingleView → Player → Type 0
 RoundIsLate (rounds.Goes moved) s p = IsLateBy 0 s p
 RoundIsLate (rounds.Ends why) s p = IsLateBy 1 s p
 
--- a pipe could not write all where it goes on
+-- a pipe could not write all where the run goes on
 abbrev pub StallsMore : Round → SingleView → SingleView → Type 0
 StallsMore (rounds.Goes moved) old new = stalled_turns old.seen + 1 ≤ stalled_turns new.seen
 StallsMore (rounds.Ends why) old new = ⊤

@@ -8,8 +8,8 @@ use Rattle.cat_rounds.specs.declared.player.Player.{Player}
 use Rattle.cat_rounds.specs.Lasting.{PlayStands, AreOn}
 use Rattle.cat_rounds.specs.declared.stillness.Stillness.{Stillness}
 
--- the socket of a run, its ends, its play, the names within the process, and since when no link took a byte once the play is
--- over
+-- the socket of a run, its ends, its play, the names within the process, and, once the play is over, the time since
+-- which no link took a byte
 pub record RunPartsView (L : Type 0) : Type 0 where
   pub single : SingleView
   pub ends : EndsView L
@@ -17,16 +17,16 @@ pub record RunPartsView (L : Type 0) : Type 0 where
   pub inproc : Registry
   pub still : Option Stillness
 
--- the history of the socket is sound, and the play stands on it
+-- the history of the socket is sound, and the play corresponds to it
 pub record IsRunning (s : SingleView) (p : Player) : Type 0 where
   pub sound : IsSound s
   pub play : PlayStands s.setting s.seen p
 
--- the moment is this, and the topics of the play are on, so that an operation may begin
+-- this is the moment, and the topics of the play are there, so an operation may begin
 pub record IsAt (s : SingleView) (p : Player) (now : ℕ) : Type 0 where
   pub now_is : IsNow now s
   pub topics_on : AreOn p.script.topics (past_of s.seen)
 
--- at whatever moment it was so, it is so
+-- it holds at every moment at which it held before
 abbrev pub StaysAt : {L : Type 0} → RunPartsView L → RunPartsView L → Type 0
 StaysAt r r' = (now : ℕ) → IsAt r.single r.player now → IsAt r'.single r'.player now

@@ -36,15 +36,15 @@ use Rattle.sp_base.specs.declared.OpName.{OpName}
 
 -- ---- Before and after
 
--- the play stands on the socket, whose history is sound, at this moment
+-- the play corresponds to the socket at this moment, and the socket's history is sound
 pub record Stands (s : SingleView) (p : Player) (now : ℕ) : Type 0 where
   pub play : PlayStands s.setting s.seen p
   pub sound : IsSound s
   pub now_is : IsNow now s
-  -- so that an operation may begin
+  -- so an operation may begin
   pub topics_on : AreOn p.script.topics (past_of s.seen)
 
--- turns more, and none of them moves a link between the net, the ends and the socket
+-- further turns, none of which moves a link between the net, the ends and the socket
 pub record GoesOnBy (old new : SingleView) : Type 0 where
   pub setting : new.setting ≡ old.setting
   pub links : AddsNone moves_ends old.seen new.seen
@@ -60,7 +60,7 @@ KnowsPipes has_pipe s p =
 
 -- ---- What is printed
 
--- a prefix of the last text, or the whole, stands in the sink behind the texts before it
+-- a prefix of the last text, or the whole text, is in the sink after the earlier texts
 abbrev pub HasPrintedCut : Option (List ℕ) → Option (List ℕ) → List (Turn Entry) → Player → Type 0
 HasPrintedCut before now h p =
     (piece : List ℕ) × IsCutShort (texts (play_of p.script) (past_of h)) piece × (now ≡ grown before piece)
@@ -77,7 +77,7 @@ PrintedThen collecting.NotYet before now h p = HasPrinted before now h p
 PrintedThen collecting.OutFault before now h p = HasPrintedCut before now h p
 PrintedThen collecting.NoMemory before now h p = HasPrintedCut before now h p
 
--- whatever stood in the sink before all texts, what stands there after these turns is so
+-- for any contents of the sink before all texts, this holds of its contents after these turns
 abbrev pub PrintsOn : (Option (List ℕ) → Option (List ℕ) → List (Turn Entry) → Player → Type 0) → SinkView → SinkView → SingleView → SingleView → Player → Player → Type 0
 PrintsOn says out out' s s' p p' =
     (before : Option (List ℕ)) → HasPrinted before out.text s.seen p → says before out'.text s'.seen p'
@@ -86,7 +86,7 @@ PrintsOn says out out' s s' p p' =
 abbrev pub AddsNoText : Script → SingleView → SingleView → Type 0
 AddsNoText script s s' = texts (play_of script) (past_of s'.seen) ≡ texts (play_of script) (past_of s.seen)
 
--- the sink failed where it is said so
+-- the sink failed where `failed` says so
 pub record Sinks (failed : Type 0) (old new : SinkView) : Type 0 where
   pub later : old.faults ≤ new.faults
   pub fault : failed → Rose old.faults new.faults
@@ -100,7 +100,7 @@ Puts collecting.NotYet p m before now = ⊥
 Puts collecting.OutFault p m before now = (prefix : List ℕ) × (rest : List ℕ) × (print p.script.format m.body ≡ prefix ++ rest) × (now ≡ grown before prefix)
 Puts collecting.NoMemory p m before now = now ≡ before
 
--- one item more was counted, if it counts
+-- one more item was counted, if it counts
 abbrev pub less_due : Bool → Option ℕ → Option ℕ
 less_due true (Some n) = Some (n - 1)
 less_due _ due = due
@@ -113,7 +113,7 @@ abbrev pub over_after : Bool → PlayEnd → PlayEnd
 over_after true o = overs.Finished
 over_after false o = o
 
--- the player after an operation came to this: whether it counts, and what was collected last
+-- the player after this result of an operation: whether it counts, and what was collected last
 abbrev pub counts_one : Bool → LastCollected → Player → Player
 counts_one c last p = record p { last = last; due = less_due c p.due; over = over_after (is_last_item c p.due) p.over }
 
@@ -137,7 +137,7 @@ gone_for is_over SurveyOver receives p = counts_one (counts_for_last p.script is
 gone_for is_over TimedOut receives p = record p { last = lasts.Gone; over = over_for receives }
 gone_for is_over cause receives p = record p { last = lasts.Gone }
 
--- the player after an operation came to this; its buffer may have changed
+-- the player after this result of an operation; its buffer may have changed
 abbrev pub AsCounted : Player → Player → Type 0
 AsCounted counted new = new ≡ record counted { text = new.text }
 
@@ -156,7 +156,7 @@ abbrev pub PutsFor : Outcome → Collecting → Player → Option (List ℕ) →
 PutsFor (outcomes.Received m) result p before now = Puts result p m before now
 PutsFor _ result p before now = (result ≡ collecting.Free) × (now ≡ before)
 
--- a piece, put into the sink
+-- a piece that was put into the sink
 abbrev pub PutsPiece : Collecting → List ℕ → Option (List ℕ) → Option (List ℕ) → Type 0
 PutsPiece collecting.Free piece before now = now ≡ grown before piece
 PutsPiece collecting.OutFault piece before now = (prefix : List ℕ) × (rest : List ℕ) × (piece ≡ prefix ++ rest) × (now ≡ grown before prefix)
@@ -164,19 +164,19 @@ PutsPiece _ piece before now = ⊥
 
 -- ---- The step
 
--- where the step went well: what had ended is collected, and an operation is under way, or none can be
+-- where the step succeeded: what had ended is collected, and an operation is under way, or none can be
 abbrev pub Rested : StepResult → SingleView → Player → Type 0
 Rested steps.Begun s p = HasPlayed s.setting s.seen p
 Rested steps.Rests s p = HasPlayed s.setting s.seen p
 Rested steps.OutFault s p = ⊤
 Rested steps.NoMemory s p = ⊤
 
--- what a step came to whose begin was refused
+-- the result of a step whose begin was refused
 abbrev pub step_for : BeginError → StepResult
 step_for error.NoMemory = steps.NoMemory
 step_for _ = steps.Rests
 
--- nothing is under way now, or what was before
+-- nothing is under way now, or what was under way before
 abbrev pub IsKept : Option OpName → Option OpName → Type 0
 IsKept old new = (new ≡ None) ⊎ (new ≡ old)
 
@@ -188,7 +188,7 @@ begins_or_ticks (Tick t due) = true
 begins_or_ticks (Begin op k c act d) = true
 begins_or_ticks _ = false
 
--- turns behind the close, without a tick and without a begin, and none that moves a link
+-- turns after the close, without a tick and without a begin, none of which moves a link
 pub record CollectsLast (old new : SingleView) : Type 0 where
   pub setting : new.setting ≡ old.setting
   pub sound : IsSound new

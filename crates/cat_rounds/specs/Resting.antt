@@ -1,4 +1,4 @@
--- When a round says that something moves still.
+-- When a round reports that something still moves.
 use Rattle.std.specs.Prelude.{◌≡◌, ◌≤◌, ◌+◌, ◌++◌, ⊤, true, false, List, [], ◌∷◌, length}
 use Rattle.std.specs.List.{list_any}
 use Rattle.turn_lock.specs.declared.turn.Turn.{Turn}
@@ -17,8 +17,8 @@ use Rattle.cat_rounds.specs.declared.rounds.Round.{Round}
 use Rattle.cat_rounds.specs.declared.rounds.Round.TheVariants as rounds
 use Rattle.cat_rounds.specs.PlayerSteps.{IsKept}
 
--- a turn since the last tick served the pipes: nothing came, went out, ended or went down in it, and nothing was begun
--- since that is under way
+-- a turn since the last tick served the pipes: nothing came, went out, ended or went down in it, and nothing that was
+-- begun since then is under way
 pub record IsAtRest (s : SingleView) : Type 0 where
   pub before : List (Turn Entry)
   pub turn : Turn Entry
@@ -31,18 +31,18 @@ pub record IsAtRest (s : SingleView) : Type 0 where
 abbrev pub BeginsNothing : SingleView → SingleView → Type 0
 BeginsNothing old new = IsKept (under_way (past_of old.seen)) (under_way (past_of new.seen))
 
--- 64 turns more
+-- 64 further turns
 abbrev pub HasGoneFar : SingleView → SingleView → Type 0
 HasGoneFar old new = length old.seen + 64 ≤ length new.seen
 
--- what the play says of it
+-- what the play returns of it
 abbrev pub MovesStill : Going → SingleView → SingleView → Type 0
 MovesStill (goings.Rests false) old new = IsAtRest new
 MovesStill (goings.Rests true) old new = HasGoneFar old new
 MovesStill _ old new = ⊤
 
--- a round with which the play isn't over says that nothing moves where all is at rest, and that something does where the
--- pipes were served so often; with the others it says that nothing does
+-- a round with which the play isn't over returns that nothing moves where all is at rest, and that something does where
+-- the pipes were served this often; other rounds return that nothing does
 abbrev pub RoundMoves : Round → Player → SingleView → SingleView → Type 0
 RoundMoves (rounds.Goes false) p old new = p.over ≡ overs.Open → IsAtRest new
 RoundMoves (rounds.Goes true) p old new = HasGoneFar old new

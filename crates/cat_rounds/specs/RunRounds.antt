@@ -1,4 +1,4 @@
--- What stands of a run between two rounds, and what it comes to.
+-- What holds of a run between two rounds, and its result.
 use Rattle.std.specs.Prelude.{◌≡◌, ◌<◌, ◌+◌, ◌^◌, ◌⊎◌, ℕ, ⊤, true, false, Bool, List, length, Option, Some, None, nat_lt}
 use Rattle.turn_lock.specs.declared.turn.Turn.{Turn}
 use Rattle.sp_base.specs.Views.{LinkView, NetView, PaceView, SinkView}
@@ -29,19 +29,19 @@ use Rattle.cat_rounds.specs.declared.stillness.Stillness.{Stillness}
 use Rattle.cat_rounds.specs.Parts.{RunPartsView}
 use Rattle.cat_rounds.specs.Stillness.{noted_still, gives_up}
 
--- the ends of a run stand on its socket, and a link was missed when out of memory, or none was
+-- what holds of the ends of a run on its socket, where a link was missed when out of memory, or none was
 pub record LinksStand {L : Type 0} (seen : L → LinkView) (start : Beginning) (s : SingleView) (ends : LinkEndsView L) (net : NetView) (is_dry : Bool) : Type 0 where
   pub ends_stand : EndsStand seen s.setting start s.seen net ends
   pub dry : IsDry is_dry s
 
--- the parts of a run that is open, between two calls of a round behind the turn of the ends
+-- the parts of a run that is open, between two calls of a round after the turn of the ends
 pub record RunStands {L : Type 0} (seen : L → LinkView) (start : Beginning) (s : SingleView) (ends : LinkEndsView L) (p : Player) (net : NetView) (is_dry : Bool) : Type 0 where
   pub sound : IsSound s
   pub play : PlayStands s.setting s.seen p
   pub ends_stand : EndsStand seen s.setting start s.seen net ends
   pub dry : IsDry is_dry s
 
--- each pipe that is up has all written that was put on it
+-- all that was put on each pipe that is up is written
 abbrev pub AreCleared : List Entry → Type 0
 AreCleared past = (p : ℕ) → has (up past) p ≡ true → is_cleared past p ≡ true
 
@@ -90,7 +90,7 @@ abbrev pub DrainsFor : Round → ℕ → SingleView → Player → Stillness →
 DrainsFor (rounds.Goes moved) now s p still = gives_up p.over p.script.send_timeout still now ≡ false
 DrainsFor (rounds.Ends why) now s p still = AreCleared (past_of s.seen) ⊎ (gives_up p.over p.script.send_timeout still now ≡ true)
 
--- when the play is over it is noted how much the links have taken, and then the run goes on or ends
+-- when the play is over, how much the links have taken is recorded, and then the run goes on or ends
 abbrev pub Drains : Round → ℕ → Option Stillness → SingleView → Player → Option Stillness → Type 0
 Drains result now before s p after =
     (taken : ℕ) × (after ≡ Some (noted_still before taken now)) × DrainsFor result now s p (noted_still before taken now)
@@ -100,12 +100,12 @@ PrintsRound (rounds.Ends status.OutFault) before now h p = HasPrintedCut before 
 PrintsRound (rounds.Ends status.NoMemory) before now h p = HasPrintedCut before now h p
 PrintsRound _ before now h p = HasPrinted before now h p
 
--- the names were dialed and asked once, in the registry that the round found, and the round leaves it as that did
+-- the names were dialed and asked once, in the registry that the round found, and the round leaves it like that
 abbrev pub TurnsNames : {L : Type 0} → ℕ → EndsView L → EndsView L → Registry → Registry → Type 0
 TurnsNames now old new reg reg' =
     (s : SingleView) × (s' : SingleView) × TurnsLanes now old.links.role old.names.names s s' reg reg' old.names.callers new.names.callers
 
--- a link was missed when out of memory at most where the round ends so
+-- a link was missed when out of memory only where the round ends for that
 abbrev pub RoundStands : {L : Type 0} → (L → LinkView) → Beginning → Round → SingleView → LinkEndsView L → Player → NetView → Type 0
 RoundStands seen start (rounds.Ends status.NoMemory) s ends p net = (is_dry : Bool) × RunStands seen start s ends p net is_dry
 RoundStands seen start _ s ends p net = RunStands seen start s ends p net false
@@ -125,12 +125,12 @@ pub record TicksOnce (t : ℕ) (old new : SingleView) : Type 0 where
 abbrev pub is_dry_at : SingleView → Bool
 is_dry_at s = has_dry_miss (past_of s.seen)
 
--- at most where the run ends so
+-- only where the run ends for that
 abbrev pub IsDryAt : Status → SingleView → Type 0
 IsDryAt status.NoMemory s = ⊤
 IsDryAt _ s = is_dry_at s ≡ false
 
--- why the rounds ended so
+-- why the rounds ended like this
 abbrev pub WentOrOver : Status → SingleView → Player → SinkView → SinkView → PaceView → Type 0
 WentOrOver status.Over s p out out' pace = (pace.left ≡ 0) × (pace.is_over ≡ true)
 WentOrOver status.Done s p out out' pace = IsThrough s p × (p.over ≡ overs.Finished)
@@ -139,14 +139,14 @@ WentOrOver status.OutFault s p out out' pace = ⊤
 WentOrOver status.NoMemory s p out out' pace = ⊤
 WentOrOver _ s p out out' pace = ⊥
 
--- what the pace gave and said
+-- what the pace gave and returned
 pub record PacedTo (s : Status) (old new : PaceView) (past : List Entry) : Type 0 where
   pub left : old.left ≡ new.left + length (ticks past)
   pub few : length (ticks past) < 2 ^ 64
   pub over : s ≡ status.Over → new.is_over ≡ true
   pub not_over : ¬ (s ≡ status.Over) → new.is_over ≡ old.is_over
 
--- what stands in the sink when the rounds ended so
+-- the contents of the sink when the rounds ended like this
 abbrev pub PrintsTo : Status → Option (List ℕ) → Option (List ℕ) → List (Turn Entry) → Player → Type 0
 PrintsTo status.OutFault before now h p = HasPrintedCut before now h p
 PrintsTo status.NoMemory before now h p = HasPrintedCut before now h p
@@ -154,11 +154,11 @@ PrintsTo _ before now h p = HasPrinted before now h p
 
 -- ---- Before and after
 
--- what an open run asks for, beside what is true of the parts of every run
+-- what an open run requires, besides what holds of the parts of every run
 abbrev pub RunIsOpen : {L : Type 0} → (L → LinkView) → RunPartsView L → NetView → Type 0
 RunIsOpen seen r net = (start : Beginning) × LinksStand seen start r.single r.ends.links net false
 
--- an open run goes on, and what stood between two rounds stands
+-- an open run goes on, and what held between two rounds still holds
 abbrev pub RunGoesOn : {L : Type 0} → (L → LinkView) → RunPartsView L → RunPartsView L → NetView → NetView → Type 0
 RunGoesOn seen r r' net net' =
     (start : Beginning) → RunStands seen start r.single r.ends.links r.player net false → RunStands seen start r'.single r'.ends.links r'.player net' (is_dry_at r'.single)
@@ -173,6 +173,6 @@ abbrev pub SameRun : {L : Type 0} → RunPartsView L → RunPartsView L → Type
 SameRun r r' =
     SameEnds r.ends.links r'.ends.links × SameScript r.player r'.player × (r'.single.setting ≡ r.single.setting)
 
--- the text that stands in the sink grew so
+-- the text in the sink grew like this
 abbrev pub PrintsRun : {L : Type 0} → (Option (List ℕ) → Option (List ℕ) → List (Turn Entry) → Player → Type 0) → SinkView → SinkView → RunPartsView L → RunPartsView L → Type 0
 PrintsRun says out out' r r' = PrintsOn says out out' r.single r'.single r.player r'.player

@@ -1,4 +1,4 @@
--- What stands before the first round, while topics are put on.
+-- What holds before the first round, while topics are added.
 use Rattle.std.specs.Prelude.{◌≡◌, ◌≤◌, ◌==◌, ◌||◌, ℕ, ⊤, true, false, IsTrue, List, length, None, Result, Ok, Err}
 use Rattle.std.specs.List.{AllByRecursion}
 use Rattle.sp_history.specs.declared.setting.Setting.{Setting}
@@ -16,7 +16,7 @@ pub record CanSubscribe (z : Setting) (ts : List (List ℕ)) : Type 0 where
   pub supported : IsTrue (has_topics z || (length ts == 0))
   pub short : AllByRecursion (λ t. length t ≤ 1024) ts
 
--- the play stands on the socket, and neither a tick nor a begin came
+-- the play corresponds to the socket, and neither a tick nor a begin came
 pub record IsBefore (s : SingleView) (p : Player) : Type 0 where
   pub play : PlayStands s.setting s.seen p
   pub sound : IsSound s
@@ -24,7 +24,7 @@ pub record IsBefore (s : SingleView) (p : Player) : Type 0 where
   pub unticked : has_ticked (past_of s.seen) ≡ false
   pub unbegun : has_begun (past_of s.seen) ≡ false
 
--- turns more before the first round: topics that were on are on, and nothing is printed
+-- further turns before the first round: topics that were there still are, and nothing is printed
 pub record Prepares (old new : SingleView) (p : Player) : Type 0 where
   pub before : IsBefore new p
   pub goes_on : GoesOnBy old new

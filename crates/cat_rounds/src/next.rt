@@ -1,4 +1,4 @@
-//! The table of plays: which call comes next, and what counts.
+//! The table of plays: the next call, and what counts.
 ghost use Rattle.std.specs.Prelude.{◌≡◌, Option, Some};
 ghost use Rattle.sp_history.specs.declared.entry.Ending.{Ending as EndingType};
 ghost use Rattle.sp_history.specs.declared.entry.Ending.TheVariants.{Won};
@@ -10,7 +10,7 @@ ghost use Rattle.cat_rounds.specs.Lasting.{IsLast};
 
 use sp_base::Role;
 
-/// What the operation came to that was collected last.
+/// The result of the operation that was collected last.
 #[derive(Clone, Copy, Debug, PartialEq, Eq)]
 pub enum LastCollected {
     /// None was collected yet.
@@ -25,7 +25,7 @@ pub enum LastCollected {
     Gone,
 }
 
-/// Whether the next call is a receive. The second flag says whether no survey is live.
+/// Returns whether the next call is a receive. The second flag says whether no survey is live.
 pub(crate) fn receives_next(role: Role, has_data: bool, is_over: bool, last: LastCollected) -> bool
     ensures { (r : Option EndingType) → IsLast last r → result ≡ scripts.receives_next role has_data is_over r }
 {
@@ -39,7 +39,7 @@ pub(crate) fn receives_next(role: Role, has_data: bool, is_over: bool, last: Las
     }
 }
 
-/// Whether what was collected last counts. The second flag says whether no survey is live.
+/// Returns whether what was collected last counts. The second flag says whether no survey is live.
 pub(crate) fn counts(role: Role, has_data: bool, is_over: bool, last: LastCollected) -> bool
     ensures { (r : Option EndingType) → IsLast last r → result ≡ scripts.counts_for role has_data is_over r }
 {
@@ -51,7 +51,7 @@ pub(crate) fn counts(role: Role, has_data: bool, is_over: bool, last: LastCollec
     }
 }
 
-// Whether a message that was received counts: of a surveyor, whether its survey is found over there.
+// Returns whether a message that was received counts. For a surveyor this is whether its survey is over.
 fn counts_received(role: Role, has_data: bool, is_over: bool) -> bool
     ensures { (m : RecordedMessageType) → result ≡ scripts.counts_for role has_data is_over (Some (Won (Received m))) }
 {
@@ -63,7 +63,7 @@ fn counts_received(role: Role, has_data: bool, is_over: bool) -> bool
     }
 }
 
-// Whether a send that was sent counts.
+// Returns whether a send that was sent counts.
 fn counts_sent(role: Role, has_data: bool, is_over: bool) -> bool
     ensures { result ≡ scripts.counts_for role has_data is_over (Some (Won Sent)) }
 {
@@ -75,7 +75,7 @@ fn counts_sent(role: Role, has_data: bool, is_over: bool) -> bool
     }
 }
 
-/// Whether a send goes to every pipe that is up, so that the first one waits until there is one.
+/// Returns whether a send goes to every pipe that is up, so that the first one waits until there is one.
 pub(crate) fn floods(role: Role) -> bool
     ensures { result ≡ floods role }
 {

@@ -1,4 +1,4 @@
-//! The play of one socket: one operation after the other.
+//! The play of one socket: one operation after another.
 ghost use Rattle.std.specs.Prelude.{◌≡◌, ◌↔◌, ◌<◌, ◌+◌, Option, None, Some, [], IsTrue, IfOk, IfSome, is_some, true, false, is_none, not, ◌&&◌, Bool};
 ghost use Rattle.std.specs.Option.{option_map};
 ghost use Rattle.sp_history.specs.Past.{past_of, is_closed};
@@ -23,21 +23,21 @@ use std::sync::Wait;
 /// The context on which everything is played.
 pub const CTX: Ctx = Ctx(0);
 
-/// How long a survey is live, in milliseconds: what a socket has where nobody sets it.
+/// How long a survey is live, in milliseconds: the default of a socket.
 const SURVEY_TIME: u64 = 1_000;
 
-/// What the play is to be: the plan without its ends (nngcat(1)).
+/// What is to be played: the plan without its ends (nngcat(1)).
 #[derive(Drop)]
 pub struct Script {
     /// The role of its socket.
     pub role: Role,
     /// What each send carries.
     pub body: Option<Bytes>,
-    /// What a sub takes.
+    /// The topics of a sub.
     pub topics: TopicList,
-    /// How many items are counted until it is over; none is never.
+    /// How many items are counted until it is over; `None` is never.
     pub count: Option<u32>,
-    /// In seconds, as the other times.
+    /// The interval, in seconds, like the other times.
     pub interval: Option<u32>,
     /// How long a receive may take.
     pub recv_timeout: Option<u32>,
@@ -58,7 +58,7 @@ pub enum PlayEnd {
     SendTimedOut,
 }
 
-/// What a step of the play came to (nngcat(1)).
+/// The result of a step of the play (nngcat(1)).
 #[derive(Clone, Copy, Debug, PartialEq, Eq)]
 pub enum StepResult {
     /// The next operation is under way.
@@ -71,7 +71,7 @@ pub enum StepResult {
     NoMemory,
 }
 
-/// What collecting came to.
+/// The result of collecting.
 pub enum Collecting {
     /// No operation is under way now.
     Free,
@@ -90,7 +90,7 @@ pub struct Player {
     pub script: Script,
     /// The operation that is under way.
     pub op: Option<Op>,
-    /// How many items more count before it is over; none is never.
+    /// How many more items count before it is over; `None` is never.
     pub due: Option<u32>,
     /// What was collected last.
     pub last: LastCollected,
@@ -98,11 +98,11 @@ pub struct Player {
     pub last_send: Option<Tick>,
     /// How it ended, or that it goes on.
     pub over: PlayEnd,
-    /// Where the texts are put together.
+    /// The buffer in which texts are composed.
     text: Vec<u8>,
 }
 
-// The operation is under way, where none was.
+// Holds the operation, where none was under way.
 fn hold(place: &mut Option<Op>, op: Op)
     requires { place.old ≡ None }
     ensures { place.new ≡ Some op }
@@ -113,7 +113,7 @@ fn hold(place: &mut Option<Op>, op: Op)
     }
 }
 
-// What a step came to whose begin was refused.
+// The result of a step whose begin was refused.
 fn step_for(error: BeginError) -> StepResult
     ensures { result ≡ step_for error }
 {
@@ -127,7 +127,7 @@ fn step_for(error: BeginError) -> StepResult
     }
 }
 
-// So many seconds after a tick.
+// The tick that many seconds after `now`.
 fn after(now: Tick, seconds: Option<u32>) -> Option<Tick>
     ensures { result ≡ option_map (after_seconds now) seconds }
 {
@@ -138,7 +138,7 @@ fn after(now: Tick, seconds: Option<u32>) -> Option<Tick>
 }
 
 impl Player {
-    /// A play that hasn't begun, of so many items.
+    /// A play that hasn't begun.
     pub fn new(alloc: Global, script: Script) -> Player
         ensures { IsNewPlayer script result }
     {
@@ -160,7 +160,7 @@ impl Player {
         }
     }
 
-    /// Collects what has ended, prints it, and begins what is next, if it may.
+    /// Collects what has ended, prints it, and begins the next operation, if it may.
     pub fn step<R: Wait, P: Proto, W: Wire, S: Sink>(
         &mut self,
         rt: &R,
@@ -220,7 +220,7 @@ impl Player {
         }
     }
 
-    // Takes note of how an operation ended.
+    // Records how an operation ended.
     fn note<S: Sink>(&mut self, outcome: Outcome, out: &mut S, now: Tick) -> Collecting
         requires due { self.old.due ≡ Some 0 → ⊥ }
         ensures noted { NotedAs (is_survey_over self.old.last_send now) outcome self.old self.new }
@@ -243,7 +243,7 @@ impl Player {
         }
     }
 
-    // An operation ended without success, a receive or a send.
+    // Records that an operation ended without success, a receive or a send.
     fn gone(&mut self, cause: Cause, receives: bool, now: Tick)
         requires due { self.old.due ≡ Some 0 → ⊥ }
         ensures gone { self.new ≡ gone_for (is_survey_over self.old.last_send now) cause receives self.old }
@@ -255,7 +255,7 @@ impl Player {
         }
     }
 
-    // The operation that was collected came to this.
+    // Records the result of the operation that was collected.
     fn count(&mut self, last: LastCollected, now: Tick)
         requires due { self.old.due ≡ Some 0 → ⊥ }
         ensures { self.new ≡ counts_one (counts_for_last self.old.script (is_survey_over self.old.last_send now) last) last self.old }
@@ -267,7 +267,7 @@ impl Player {
         }
     }
 
-    // One item more counts.
+    // Records that one more item counts.
     fn one_less(&mut self)
         requires { self.old.due ≡ Some 0 → ⊥ }
         ensures { self.new ≡ counts_one true self.old.last self.old }
@@ -283,7 +283,7 @@ impl Player {
         }
     }
 
-    // Whether no survey is live: none was begun, or the time of the last one is over.
+    // Returns whether no survey is live: none was begun, or the time of the last one has passed.
     fn is_survey_over(&self, now: Tick) -> bool
         ensures { result ≡ is_survey_over self.now.last_send now }
     {
@@ -293,7 +293,7 @@ impl Player {
         }
     }
 
-    // An operation ended with its deadline, a receive or a send.
+    // Records that an operation timed out, a receive or a send.
     fn timed_out(&mut self, receives: bool)
         ensures { self.new ≡ record self.old { last = LastCollected.Gone; over = over_for receives } }
     {
@@ -324,7 +324,7 @@ impl Player {
         }
     }
 
-    // Begins what is next, where nothing is under way.
+    // Begins the next operation, where none is under way.
     fn begin<R: Wait, P: Proto, W: Wire>(
         &mut self,
         rt: &R,
@@ -392,14 +392,14 @@ impl Player {
         }
     }
 
-    // Whether the first send waits until a pipe is up.
+    // Returns whether the first send waits until a pipe is up.
     fn waits_for_pipe(&self, has_pipe: bool) -> bool
         ensures { result ≡ (floods self.now.script.role && is_none self.now.last_send && not has_pipe) }
     {
         floods(self.script.role) && self.last_send.is_none() && !has_pipe
     }
 
-    // Whether the interval since the last send isn't over.
+    // Returns whether the interval since the last send hasn't passed.
     fn is_within_interval(&self, now: Tick) -> bool
         ensures { result ≡ is_within self.now.script.interval self.now.last_send now }
     {
@@ -479,7 +479,7 @@ impl Player {
     }
 }
 
-// Whether the interval since then isn't over.
+// Returns whether the interval since `since` hasn't passed.
 fn is_held_back(interval: Option<u32>, since: Option<Tick>, now: Tick) -> bool
     ensures { result ≡ is_within interval since now }
 {
@@ -489,7 +489,7 @@ fn is_held_back(interval: Option<u32>, since: Option<Tick>, now: Tick) -> bool
     }
 }
 
-// Whether so many milliseconds haven't gone by since then.
+// Returns whether fewer than `pause` milliseconds have passed since `since`.
 fn is_before(now: Tick, since: Tick, pause: u64) -> bool
     ensures { IsTrue result ↔ (now < since + pause) }
 {

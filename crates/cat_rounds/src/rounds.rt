@@ -18,25 +18,25 @@ use sp_proto::Proto;
 use sp_socket::Served;
 use std::sync::Wait;
 
-/// How often the pipes are served in a round at most, while messages move.
+/// The maximum number of times that the pipes are served in a round, while messages move.
 const SWEEPS: u32 = 64;
 
-/// How many steps of the play follow one another without a serve at most.
+/// The maximum number of steps of the play between two serves.
 const STEPS: u32 = 64;
 
-/// What a round came to.
+/// The result of a round.
 #[derive(Clone, Copy, Debug, PartialEq, Eq)]
 pub enum Round {
-    /// The run goes on; whether messages move still.
+    /// The run goes on. The flag says whether messages still move.
     Goes(bool),
     /// The run is over.
     Ends(Status),
 }
 
-/// What a part of a round came to.
+/// The result of a part of a round.
 #[derive(Clone, Copy, Debug, PartialEq, Eq)]
 pub enum Going {
-    /// The run goes on; whether messages move still.
+    /// The run goes on. The flag says whether messages still move.
     Rests(bool),
     /// It is over.
     Over,
@@ -47,7 +47,7 @@ pub enum Going {
 }
 
 impl<R: Wait, P: Proto, L: Link> RunParts<'_, R, P, L> {
-    /// Goes round until the play is over and all is written, the pace is over, or something fails.
+    /// Takes rounds until the play is over and all is written, the pace is over, or something fails.
     pub fn go_round<N: Net<L = L>, Pa: Pace, S: Sink>(
         &mut self,
         net: &mut N,
@@ -102,7 +102,7 @@ impl<R: Wait, P: Proto, L: Link> RunParts<'_, R, P, L> {
             return Round::Ends(Status::NoMemory);
         }
         let going = self.play(out, now);
-        // The model's facts are known from here on.
+        // Brings the invariant of the field into the proof.
         let _single = &self.single;
         match going {
             Going::Rests(moved) => Round::Goes(moved),
@@ -116,7 +116,7 @@ impl<R: Wait, P: Proto, L: Link> RunParts<'_, R, P, L> {
         }
     }
 
-    // Serves the pipes and goes on with the play, while messages move.
+    // Serves the pipes and continues the play, while messages move.
     fn play<S: Sink>(&mut self, out: &mut S, now: Tick) -> Going
         requires at { IsAt self.old.single self.old.player now }
         ensures at { IsAt self.new.single self.new.player now }
@@ -144,7 +144,7 @@ impl<R: Wait, P: Proto, L: Link> RunParts<'_, R, P, L> {
         Going::Rests(true)
     }
 
-    // Serves the pipes once, and goes on with the play.
+    // Serves the pipes once, and continues the play.
     fn sweep<S: Sink>(&mut self, out: &mut S, now: Tick) -> Going
         requires at { IsAt self.old.single self.old.player now }
         ensures at { IsAt self.new.single self.new.player now }
@@ -167,7 +167,7 @@ impl<R: Wait, P: Proto, L: Link> RunParts<'_, R, P, L> {
         }
     }
 
-    // Goes on with the play until it rests.
+    // Continues the play until it rests.
     fn steps<S: Sink>(&mut self, out: &mut S, now: Tick, has_pipe: bool) -> Going
         requires at { IsAt self.old.single self.old.player now }
         requires served { HasServed self.old.single.setting self.old.single.seen }
@@ -196,8 +196,8 @@ impl<R: Wait, P: Proto, L: Link> RunParts<'_, R, P, L> {
         Going::Rests(moved)
     }
 
-    // The play is over: the run ends as soon as no pipe has something left to write. Where a send timed out it ends too
-    // once no link has taken a byte for as long as a send may take.
+    // Ends the run, whose play is over, as soon as no pipe has something left to write. Where a send timed out, it also
+    // ends once no link has taken a byte for as long as a send may take.
     fn drain(&mut self, now: Tick) -> Round
         requires at { IsAt self.old.single self.old.player now }
         requires over { self.old.player.over ≢ PlayEnd.Open }
@@ -229,14 +229,14 @@ impl<R: Wait, P: Proto, L: Link> RunParts<'_, R, P, L> {
     }
 }
 
-// Whether the run goes on though its play is over.
+// Returns whether the run goes on though its play is over.
 fn goes_on(served: Served, given_up: bool) -> bool
     ensures { result ≡ (has_more served && not given_up) }
 {
     has_more(served) && !given_up
 }
 
-// Whether a pipe has something left to write.
+// Returns whether a pipe has something left to write.
 fn has_more(served: Served) -> bool
     ensures { result ≡ has_more served }
 {

@@ -9,8 +9,8 @@ use sp_proto::Proto;
 use sp_socket::Single;
 use std::marker::Model;
 
-/// The runtime with which a run waits, its socket, its ends, its play, the names within the process, and since when no
-/// link took a byte once the play is over. It must be spent.
+/// The runtime with which a run waits, its socket, its ends, its play, the names within the process, and, once the play
+/// is over, the time since which no link took a byte. It must be spent.
 pub(crate) struct RunParts<'r, R, P: Proto, L: Link> {
     pub rt: &'r R,
     pub single: Single<P, EndWire<L>>,
@@ -20,7 +20,7 @@ pub(crate) struct RunParts<'r, R, P: Proto, L: Link> {
     pub still: Option<Stillness>,
 }
 
-// Contracts see the parts without the runtime. The history of the socket is sound, and the play stands on it.
+// Contracts see the parts without the runtime. The history of the socket is sound, and the play corresponds to it.
 impl<'r, R, P: Proto, L: Link> Model for RunParts<'r, R, P, L> {
     ghost use Rattle.cat_rounds.specs.Parts.{RunPartsView, IsRunning};
 

@@ -1,4 +1,4 @@
-//! Since when no link takes a byte, while a run waits for what is left to write.
+//! Since when no link has taken a byte, while a run waits for what is left to write.
 ghost use Rattle.std.specs.Prelude.{◌≡◌, Some};
 ghost use Rattle.cat_rounds.specs.Stillness.{noted_still, gives_up_at};
 
@@ -14,7 +14,7 @@ pub struct Stillness {
     pub since: Tick,
 }
 
-/// At this tick they have taken so much.
+/// Records that at this tick they have taken `taken`.
 pub fn note(still: &mut Option<Stillness>, taken: u64, now: Tick)
     ensures { still.new ≡ Some (noted_still still.old taken now) }
 {

@@ -1,4 +1,4 @@
-//! The topics of a sub, which are put on before the first round.
+//! The topics of a sub, which are added before the first round.
 ghost use Rattle.std.specs.Prelude.{◌≡◌, ◌≤◌, [], length, IsTrue};
 ghost use Rattle.sp_history.specs.Legal.{has_topic};
 ghost use Rattle.sp_history.specs.Past.{past_of, topics};
@@ -17,7 +17,7 @@ use sp_proto::Proto;
 use sp_socket::{Single, TopicError};
 use std::sync::Wait;
 
-// Puts one topic of the play on.
+// Adds one topic of the play.
 fn subscribe<R: Wait, P: Proto, W: Wire>(
     rt: &R,
     single: &mut Single<P, W>,
@@ -40,7 +40,7 @@ fn subscribe<R: Wait, P: Proto, W: Wire>(
     }
 }
 
-// Puts all topics of the play on.
+// Adds all topics of the play.
 fn subscribe_all<R: Wait, P: Proto, W: Wire>(
     rt: &R,
     single: &mut Single<P, W>,
@@ -58,7 +58,7 @@ fn subscribe_all<R: Wait, P: Proto, W: Wire>(
 }
 
 impl<R: Wait, P: Proto, L: Link> RunParts<'_, R, P, L> {
-    // Puts the topics on, and goes round.
+    // Adds the topics, and takes the rounds.
     pub(crate) fn begin<N: Net<L = L>, Pa: Pace, S: Sink>(
         &mut self,
         net: &mut N,

@@ -21,7 +21,7 @@ use sp_proto::Proto;
 use sp_socket::{Record, Single, SingleEnd};
 use std::sync::Wait;
 
-/// How many operations the socket of a run has at once.
+/// The maximum number of operations of a run's socket.
 const SLOTS: u32 = 16;
 
 /// What a run returns (nngcat(1)).
@@ -29,11 +29,11 @@ const SLOTS: u32 = 16;
 pub struct CatEnd {
     /// Why it ended.
     pub status: Status,
-    /// The history of its socket; none where no socket was opened.
+    /// The history of its socket; `None` where no socket was opened.
     pub record_: Option<Record>,
 }
 
-// No socket was opened.
+// The result where no socket was opened.
 fn unopened(status: Status) -> CatEnd
     ensures { (result.status ≡ status) × (result.record_ ≡ None) }
 {
@@ -43,8 +43,8 @@ fn unopened(status: Status) -> CatEnd
     }
 }
 
-/// A plan that is to be played, with the runtime by which its run waits. `dice` is the number of which its socket is
-/// made; the keys of WebSocket openings are made from it too (nngcat(1)).
+/// A plan to be played, with the runtime that its run waits with. `dice` is the number that its socket is made from;
+/// the keys of WebSocket openings are made from it too (nngcat(1)).
 pub struct PlannedRun<'r, R> {
     /// The runtime.
     pub rt: &'r R,
@@ -54,10 +54,10 @@ pub struct PlannedRun<'r, R> {
     pub dice: u32,
 }
 
-/// Plays the plan on a socket over this machine, which is one of the plan's role and as good as new: opens the socket,
-/// listens and dials in the order of the plan, puts its topics on, goes round, closes, and gives every link back. Names
-/// within the process are those of this run alone.
-/// Whatever it returns, the history of the socket says all that was done.
+/// Plays the plan on a socket over this machine, which has the plan's role and is in its initial state: opens the
+/// socket, listens and dials in the order of the plan, adds its topics, takes the rounds, closes, and gives every link
+/// back. Names within the process belong only to this run.
+/// Whatever it returns, the history of the socket has all that was done.
 pub fn play<R: AllocGlobal + Wait, N: Net, Pa: Pace, S: Sink, P: Proto + Drop>(
     planned: PlannedRun<'_, R>,
     machine: Result<P, NoMemory>,
@@ -130,7 +130,7 @@ fn body_of(data_: Data) -> Option<Bytes>
 }
 
 impl<R: Wait, P: Proto, L: Link> RunParts<'_, R, P, L> {
-    // Listens and dials as planned, puts the topics on, and goes round.
+    // Listens and dials as planned, adds the topics, and takes the rounds.
     fn follow<N: Net<L = L>, Pa: Pace, S: Sink>(
         &mut self,
         ends: &[End],
@@ -162,7 +162,7 @@ impl<R: Wait, P: Proto, L: Link> RunParts<'_, R, P, L> {
         self.begin(net, pace, out)
     }
 
-    // One end of the plan.
+    // Adds one end of the plan.
     fn add<N: Net<L = L>>(&mut self, net: &mut N, end: &End) -> Result<(), EndError>
         requires built { IsBuiltEnd end.now }
         ensures added { AddsEnd result end.now self.old.ends self.new.ends (N.seen net.old) (N.seen net.new) self.old.inproc self.new.inproc }

@@ -1,4 +1,4 @@
--- What a run of a plan is to the plan whose file was loaded.
+-- The relation between a run of a plan and that of the plan whose file was loaded.
 use Rattle.std.specs.Prelude.{◌≡◌, ◌≤◌, ℕ, List, Option, Some, None}
 use Rattle.std.proofs.Common.{subst, sym, ◌∙◌, arith}
 use Rattle.turn_lock.specs.declared.turn.Turn.{Turn}
@@ -83,7 +83,7 @@ module _ (net net' : NetView) (pace pace' : PaceView) (sink sink' : SinkView) (f
     memory = r.memory;
   }
 
-  -- no socket was opened, whatever the files are: not for a file
+  -- no socket was opened, for any files: the cause is not a file
   unopened : (s : Status) → ((f : FilesView) → UnopenedFor s (world net f pace sink) (world net' f pace' sink')) → UnopenedFor s old after
   unopened status.Done u = u files
   unopened (status.Usage at) u = u files
@@ -103,11 +103,11 @@ module _ (net net' : NetView) (pace pace' : PaceView) (sink sink' : SinkView) (f
       let is = (u files).1 in
       (play, record { role = is.role; body = carries plan.data_ data_ files play.body content is.body; topics = is.topics; count = is.count; interval = is.interval; recv_timeout = is.recv_timeout; send_timeout = is.send_timeout; format = is.format }, runs ways s plan data_ play dice h (u files).2)
 
-  -- the same of the plan that was loaded
+  -- the same for the plan that was loaded
   pub run_of : (s : Status) (plan loaded : CatPlan) (data_ : Data) (dice : ℕ) (r : Option (List (Turn Entry))) → HasContent plan.data_ data_ files → loaded ≡ record plan { data_ = data_ } → ((f : FilesView) → RunsPlan (run_ways loaded.role (origins_of loaded dice)) s loaded dice r (world net f pace sink) (world net' f pace' sink')) → RunsPlan (run_ways plan.role (origins_of plan dice)) s plan dice r old after
   run_of s plan loaded data_ dice r content is u =
       loaded_runs (run_ways plan.role (origins_of plan dice)) s plan data_ dice r content (subst (λ (l : CatPlan). (f : FilesView) → RunsPlan (run_ways l.role (origins_of l dice)) s l dice r (world net f pace sink) (world net' f pace' sink')) is u)
 
--- the files were asked as the plan says
+-- the files were asked for what the plan names
 pub files_by : (data_ : Data) (net net' : NetView) (pace pace' : PaceView) (sink sink' : SinkView) (files files' : FilesView) → AsksFiles data_ files files' → FilesBy data_ (world net files pace sink) (world net' files' pace' sink')
 files_by data_ net net' pace pace' sink sink' files files' a = record { holds = a.holds; faults = a.faults; unasked = a.unasked }

@@ -1,4 +1,4 @@
--- What is known of a machine that is as good as new.
+-- What is known of a machine in its initial state.
 use Rattle.std.specs.Prelude.{◌≡◌, ℕ, false, Result, IfOk}
 use Rattle.std.proofs.Common.{refl, sym, ap, subst, ◌∙◌}
 use Rattle.std.proofs.lemmas.Result.{IfOk-weaker}
@@ -9,7 +9,7 @@ use Rattle.sp_proto.specs.Kinds.{Kind, Starts}
 use Rattle.sp_base.specs.declared.role.Role.{Role}
 use Rattle.cat_rounds.specs.Built.{IsMachineOf}
 
--- the machine of a role, cooked and as usual
+-- the machine of a role, cooked, with the usual options
 abbrev pub usual_kind : Role → ℕ → Kind
 usual_kind role dice = record { role = role; raw = false; options = usual role dice }
 

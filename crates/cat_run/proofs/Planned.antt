@@ -88,9 +88,9 @@ spelled option words (inl flag) = flagged flag.name option flag.flag
 spelled option words (inr (inl next)) = said next.name next.value option next.says
 spelled option words (inr (inr own)) = said own.name own.value option own.says
 
--- ---- Options, one after the other
+-- ---- Options, one after another
 
--- its topics are none, or it is of a role that takes them
+-- it has no topics, or a role that takes them
 abbrev TakesTopics : Option Role → Bool → Type 0
 TakesTopics None silent = Unit {0}
 TakesTopics (Some role) silent = (drafts.is_sub role || silent) ≡ true
@@ -164,7 +164,7 @@ same_data datas.None = refl
 same_data (datas.Text text) = refl
 same_data (datas.File name) = refl
 
--- the topics of a plan, by whether its role is sub and whether none was said
+-- the topics of a plan, by whether its role is sub and whether none was given
 chosen : (role : Role) (sub none : Bool) (ts : List (List ℕ)) → drafts.is_sub role ≡ sub → (length ts == 0) ≡ none → (sub || none) ≡ true → AllByRecursion (λ t. length t ≤ 1024) ts → AreTopics role (if sub && none then [] ∷ [] else ts)
 chosen role true true ts is empty takes short = record { supported = rw (same_sub role, is) refl; short = (omega arith, tt) }
 chosen role true false ts is empty takes short = record { supported = rw (same_sub role, is) refl; short = short }
@@ -179,7 +179,7 @@ has_what true true h = refl
 has_what true false h = cc
 has_what false has h = refl
 
--- what is needed to play it, but for what its file holds
+-- what is needed to play it, except for what its file holds
 record IsReady (plan : CatPlan) : Type 0 where
   ends_built : AreBuilt plan.ends
   topics_ready : AreTopics plan.role plan.topics

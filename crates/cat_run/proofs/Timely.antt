@@ -22,7 +22,7 @@ use Rattle.cat_run.specs.Loading.{HasContent}
 abbrev with_body : Play → List ℕ → Play
 with_body play bytes = record play { body = Some bytes }
 
--- what counts goes by whether there are data
+-- what counts depends only on whether there are data
 count_same : (z : Setting) (play : Play) (a b : List ℕ) (past : List Entry) → count_in z (with_body play a) past ≡ count_in z (with_body play b) past
 count_same z play a b [] = refl
 count_same z play a b (Took op k ∷ past) =

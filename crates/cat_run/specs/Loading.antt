@@ -9,19 +9,19 @@ use Rattle.cat_text.specs.declared.plan.Data.TheVariants as datas
 use Rattle.cat_play.specs.declared.status.Status.{Status}
 use Rattle.cat_play.specs.declared.status.Status.TheVariants as status
 
--- data with what the file of a name holds in place of the name
+-- the data, with the contents of the file in place of its name
 abbrev pub HasContent : Data → Data → FilesView → Type 0
 HasContent datas.None loaded files = loaded ≡ datas.None
 HasContent (datas.Text text) loaded files = loaded ≡ datas.Text text
 HasContent (datas.File name) loaded files = (bytes : List ℕ) × (loaded ≡ datas.Text bytes) × Holds files name bytes
 
--- the files hold what they held; without a name they were not asked
+-- the files hold what they held; where there is no name they were not asked
 pub record AsksFiles (data_ : Data) (old new : FilesView) : Type 0 where
   pub holds : new.holds ≡ old.holds
   pub faults : old.faults ≤ new.faults
   pub unasked : ((name : List ℕ) → data_ ≡ datas.File name → ⊥) → new ≡ old
 
--- why there are none
+-- why there are no data
 abbrev pub LoadFails : Status → FilesView → FilesView → Type 0
 LoadFails status.FileFault old new = Rose old.faults new.faults
 LoadFails status.NoMemory old new = ⊤

@@ -19,7 +19,8 @@ abbrev pub CompletesAs : Status → Plan → World → World → Type 0
 CompletesAs s (plans.Cat plan) old new = IsSpared plan old new → ComesToEnd s
 CompletesAs s (plans.Drill count) old new = (Rose old.sink.faults new.sink.faults → ⊥) → ComesToEnd s
 
--- a plan that listens twice on one name within the process has no end but these: a network fault, a file fault, out of memory
+-- a plan that listens twice on one name within the process can end only in these ways: a network fault, a file fault,
+-- out of memory
 abbrev pub IsOnce : Status → Plan → Type 0
 IsOnce s (plans.Cat plan) = ListensOnce s plan.ends
 IsOnce s (plans.Drill count) = ⊤

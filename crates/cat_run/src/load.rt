@@ -1,4 +1,4 @@
-//! The data of a plan that stand in a file.
+//! The data of a plan that are in a file.
 ghost use Rattle.cat_run.specs.Loading.{AsksFiles, DataLoads, PlanLoads};
 
 use cat_play::status::Status;
@@ -6,7 +6,7 @@ use cat_text::{CatPlan, Data};
 use sp_base::{Files, Whole};
 use std::str;
 
-// The plan with what its file holds in place of the name.
+// The plan, with the contents of the file in place of its name.
 pub(crate) fn load<F: Files>(plan: CatPlan, files: &mut F) -> Result<CatPlan, Status>
     ensures loads { PlanLoads result plan (F.seen files.old) (F.seen files.new) }
     ensures asks { AsksFiles plan.data_ (F.seen files.old) (F.seen files.new) }
@@ -38,7 +38,7 @@ pub(crate) fn load<F: Files>(plan: CatPlan, files: &mut F) -> Result<CatPlan, St
     }
 }
 
-// A name that isn't UTF-8 can't be asked for; words have none.
+// A name that isn't UTF-8 can't be asked for; words have no such name.
 fn content<F: Files>(data_: Data, files: &mut F) -> Result<Data, Status>
     ensures loads { DataLoads result data_ (F.seen files.old) (F.seen files.new) }
     ensures asks { AsksFiles data_ (F.seen files.old) (F.seen files.new) }

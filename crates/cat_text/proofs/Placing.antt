@@ -1,4 +1,4 @@
--- Texts that are put into places that are there.
+-- Texts that are written into existing places.
 use Rattle.std.proofs.Common.{◌≡◌, ◌≤◌, ◌<◌, ◌+◌, ◌++◌, ℕ, List, [], ◌∷◌, length, take, map, get_or, refl, sym, ap, subst, ◌∙◌, arith}
 use Rattle.std.specs.Prelude.{Bool, true, false, ◌==◌, ◌&&◌, ◌/◌, ◌%◌, nat_le, if◌then◌else◌}
 use Rattle.std.proofs.lemmas.List.{append_assoc, append-nil, map-append, take_at, length-take-le, take-take, take_more}
@@ -8,16 +8,16 @@ use Rattle.std.specs.List.{flat_map}
 use Rattle.cat_text.specs.Printing.{digit, quoted}
 use Rattle.cat_text.specs.Placing.{Puts, letter, first, width}
 
--- a piece behind a piece
+-- a piece after a piece
 pub more : (p q : List ℕ) (at middle end : ℕ) (old half new : List ℕ) → Puts p at middle old half → Puts q middle end half new → Puts (p ++ q) at end old new
 more p q at middle end old half new a b =
     record { same_length = b.same_length ∙ a.same_length; text = b.text ∙ ap (λ (t : List ℕ). t ++ q) a.text ∙ append_assoc (take at old) p q }
 
--- the same, where the pieces are said otherwise
+-- the same, where the pieces are given in another way
 pub more_as : (p q whole : List ℕ) (at middle end : ℕ) (old half new : List ℕ) → whole ≡ p ++ q → Puts p at middle old half → Puts q middle end half new → Puts whole at end old new
 more_as p q whole at middle end old half new e a b = subst (λ (t : List ℕ). Puts t at end old new) (sym e) (more p q at middle end old half new a b)
 
--- of a piece of four bytes the first ones
+-- the first bytes of a piece of four bytes
 pub fewer : (a b c d at n : ℕ) (old new : List ℕ) → n ≤ 4 → at ≤ length old → Puts (a ∷ b ∷ c ∷ d ∷ []) at (at + 4) old new → Puts (take n (a ∷ b ∷ c ∷ d ∷ [])) at (at + n) old new
 fewer a b c d at n old new small room h =
     let prefix : List ℕ = take at old in
@@ -27,11 +27,11 @@ fewer a b c d at n old new small room h =
     let cut : take (length prefix + n) (prefix ++ piece) ≡ prefix ++ take n piece = take-append-add prefix piece n in
     record { same_length = h.same_length; text = within ∙ ap (take (at + n)) h.text ∙ subst (λ (m : ℕ). take (m + n) (prefix ++ piece) ≡ prefix ++ take n piece) before cut }
 
--- what is cut off behind the piece that stands at the end of a text
+-- what is cut off after the piece at the end of a text
 pub cut_text : (piece old spare new : List ℕ) (end : ℕ) → Puts piece (length old) end (old ++ spare) new → take end new ≡ old ++ piece
 cut_text piece old spare new end h = h.text ∙ ap (λ (t : List ℕ). t ++ piece) (take_at old spare (length old) refl)
 
--- ---- one byte more of a body
+-- ---- one more byte of a body
 
 pub map_more : (f : ℕ → ℕ) (body : List ℕ) (i : ℕ) → i < length body → map f (take (i + 1) body) ≡ map f (take i body) ++ f (get_or body i 0) ∷ []
 map_more f body i h = ap (map f) (take_more body i 0 h) ∙ map-append f (take i body) (get_or body i 0 ∷ [])

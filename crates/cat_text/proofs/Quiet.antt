@@ -1,4 +1,4 @@
--- What stands between quotes has no control byte.
+-- What is between quotes has no control byte.
 use Rattle.std.proofs.Common.{◌≡◌, ◌<◌, ◌≤◌, ◌+◌, ◌++◌, ◌∙◌, ℕ, List, [], ◌∷◌, refl, sym, ap, arith}
 use Rattle.std.specs.Prelude.{Bool, true, false, ◌==◌, ◌&&◌, ◌/◌, ◌%◌, nat_le, nat_lt, if◌then◌else◌, codes}
 use Rattle.std.proofs.lemmas.Grind.{common_steps}

@@ -3,11 +3,11 @@ use Rattle.std.specs.Prelude.{ℕ, ◌<◌, ◌≤◌, List, [], ◌∷◌, ◌+
 use Rattle.std.specs.List.{flat_map}
 use Rattle.cat_text.specs.Printing.{quoted, in_quotes}
 
--- the word stands at its end, as the format Quoted prints it, with the line feed of that format
+-- the word is at its end, as the format Quoted prints it, with the line feed of that format
 abbrev pub naming : List ℕ → List ℕ
 naming word = codes "nngcat: see nngcat --help; can't go on with " ++ in_quotes quoted word
 
--- what the format Quoted prints but its line feed
+-- what the format Quoted prints, except its line feed
 abbrev pub between_quotes : List ℕ → List ℕ
 between_quotes word = 34 ∷ flat_map quoted word ++ 34 ∷ []
 

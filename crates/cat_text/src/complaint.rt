@@ -1,4 +1,4 @@
-//! What is said of a wrong word.
+//! The line about a wrong word.
 ghost use Rattle.std.specs.Prelude.{◌≡◌, ◌++◌, ◌∷◌, [], OnOk, OnErr, ℕ, List};
 ghost use Rattle.cat_text.specs.Naming.{naming, naming_line, IsQuiet, IsBytes};
 
@@ -7,9 +7,8 @@ use crate::printing::print;
 use sp_base::{Bytes, NoMemory};
 use std::alloc::Global;
 
-/// Puts the line that names a wrong word at the end of `out`: the word stands in it as the format Quoted prints it, so
-/// no byte of it but visible ones reaches a terminal. Refused only when out of memory, and then a part of it may stand
-/// there.
+/// Appends the line that names a wrong word to `out`. The word is in it as the format Quoted prints it, so only visible
+/// bytes reach a terminal. Fails only when out of memory, and then a part of it may have been appended.
 pub fn name_word(alloc: Global, word: &str, out: &mut Bytes) -> Result<(), NoMemory>
     ensures { OnOk result (out.new ≡ out.old ++ naming word.now) }
 {
@@ -17,7 +16,7 @@ pub fn name_word(alloc: Global, word: &str, out: &mut Bytes) -> Result<(), NoMem
     print(alloc, Format::Quoted, word.as_bytes(), out)
 }
 
-/// The line that names a word has no control byte but the line feed at its end, whatever the word.
+/// The line that names a word has no control byte except the line feed at its end, for any word.
 pub fn names_quietly()
     ensures line { (word : List ℕ) → naming word ≡ naming_line word ++ 10 ∷ [] }
     ensures quiet { (word : List ℕ) → IsBytes word → IsQuiet (naming_line word) }

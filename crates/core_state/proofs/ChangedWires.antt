@@ -131,7 +131,7 @@ without_removed (x ∷ xs) (suc i) h l =
 
 -- ---- The pipes of a history
 
--- none is up twice, none has a number that was not given yet, and none is both up and untaken
+-- no pipe is up twice or has a number that was not given yet, and none is both up and untaken
 abbrev pub Numbered : List Entry → Type 0
 Numbered before = AreDistinct (up before) × ((p : ℕ) → ups before < p → (has (up before) p ≡ false) × (has (untaken before) p ≡ false)) × ((p : ℕ) → has (up before) p ≡ true → has (untaken before) p ≡ false)
 

@@ -1,4 +1,4 @@
--- What stands in a list.
+-- Elements of lists.
 use Rattle.std.proofs.Common.{◌≡◌, subst, List, [], ◌∷◌, ◌++◌, suc, Bool, true, false, cond, arith, Some, inl, inr}
 use Rattle.std.specs.Prelude.{filter, find, Contains}
 use Rattle.aio_word.specs.Views.{Stands}
@@ -39,7 +39,7 @@ module _ {A : Type 0} where
   every-one P a h x (inl e) = subst P e h
   every-one P a h x (inr s) = absurd s
 
--- what is found stands there
+-- what is found is there
 pub find-stands : (ss : List Begun) (op : OpName) (s : Begun) → find (is_of op) ss ≡ Some s → Stands s ss
 find-stands [] op s h = absurd cc
 find-stands (r ∷ ss) op s h = go (is_of op r) h (find-stands ss op s)

@@ -1,4 +1,4 @@
--- For which causes operations end at a close, and with their requests.
+-- The causes for which operations end at a close, and with their requests.
 use Rattle.std.proofs.Common.{◌≡◌, ◌≢◌, refl, ℕ, ◌≤◌, true, inl, inr}
 use Rattle.aio_word.specs.declared.phase.Phase.{Phase}
 use Rattle.aio_word.specs.Word.{is_core_end}

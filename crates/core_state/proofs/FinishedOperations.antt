@@ -25,7 +25,7 @@ use Rattle.core_state.proofs.PendingEnds.{find-named, without_shorter, length-pe
 use Rattle.core_state.proofs.FreedSlots.{pending_inside, none_ended_yet}
 use Rattle.core_state.proofs.Outcomes.{put_in, one_more_counted}
 
--- nothing stands at its slot's place yet
+-- nothing is at its slot's place yet
 pub empty_place : (s : Operations) (t : Moment) (op : OpName) (b : Begun) → OperationsStand [] s t → Lawful t → pending (past t) op ≡ Some b → done_at s.done.items op.slot ≡ None
 empty_place s t op b h l p = go (done_at s.done.items op.slot) refl
   where

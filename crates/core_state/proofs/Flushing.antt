@@ -52,7 +52,7 @@ pub cleared : (before : List Entry) (p : ℕ) (w v : WireView) → IsUpWire befo
 cleared before p w v h a =
     record { agrees = clear_agrees before p (state_of w) (state_of v) h.agrees a.shows.1 (ap state_of a.shows.0); is_open = ap (λ (x : WireView). x.is_open) a.shows.0 ∙ h.is_open }
 
--- a flush that ends the wire does to it what asking for room does
+-- a flush that ends the wire changes it as asking for room does
 pub as_failed : (w v : WireView) → AfterFlush flushes.Failed w v → AfterRoom rooms.Failed w v
 as_failed w v a = record { shows = a.shows.0; waits = a.waits }
 

@@ -1,4 +1,4 @@
--- What holds of every moment whose history is legal.
+-- What holds at every moment whose history is legal.
 use Rattle.std.proofs.Common.{◌≡◌, refl, ap, sym, ◌∙◌, subst, List, [], ◌∷◌, ◌++◌, ℕ, ◌+◌, ◌<◌, ◌≤◌, Bool, true, false, cond, arith, Some}
 use Rattle.std.specs.Prelude.{map, not, ◌&&◌, ◌||◌, ◌==◌, IsTrue}
 use Rattle.std.specs.List.{list_any}

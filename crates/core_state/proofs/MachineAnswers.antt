@@ -1,4 +1,4 @@
--- What a machine's answers say of its socket.
+-- What a machine's answers say about its socket.
 use Rattle.std.proofs.Common.{◌≡◌, refl, ℕ, Bool, true, false}
 use Rattle.std.specs.Prelude.{◌&&◌, ◌||◌, ◌==◌, not}
 use Rattle.sp_base.specs.declared.role.Role.{Role}

@@ -23,7 +23,7 @@ use Rattle.core_state.proofs.PipesInOrder.{held_more, rising_push}
 use Rattle.core_state.proofs.Lawfuls.{by_steps}
 use Rattle.core_state.proofs.ChangedWires.{same_number, differ, has_at, shows_still, Numbered, numbered, numbered_next, down_low}
 
--- no entry speaks of a pipe whose number was not given yet
+-- no entry mentions a pipe whose number was not given yet
 abbrev Untouched : List Entry → ℕ → Type 0
 Untouched before p = (frames before p ≡ []) × (outs before p ≡ []) × (fulls before p ≡ 0) × (quiets before p ≡ 0) × (stalls before p ≡ 0)
 

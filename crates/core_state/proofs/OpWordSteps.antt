@@ -176,7 +176,7 @@ callers_ended d e t op s cause by h l p w sw c b dec k =
     let ends_are = ap (λ x. x.ends) v ∙ noted_ended d.seat.view.ends (of_op op (phase_for cause) by) dec (open_is d t op s h l p) in
     (c, b, omega (arith, k.1.made, h.made_are), op_words_ended d e t op (Gone cause by) h w sw ends_are (ap (λ x. x.generations) v) (ap (λ x. x.made) v))
 
--- it is pending still
+-- it is still pending
 still_pending : (d e : OpWords) (t : Moment) (op : OpName) (phase : Phase) (by : ℕ) → OpWordsStand d t → e.words ≡ d.words → e.seat.words ≡ d.seat.words → is_decided phase ≡ false → CoreSaw d.seat.view (of_op op phase by) e.seat.view → OpWordsStand e t
 still_pending d e t op phase by h w sw dec k =
     let v = k.0 in
@@ -215,7 +215,7 @@ none_decided v op Shut by d f o g = is_callers v op Shut by refl f o (λ q. cc) 
 none_decided v op Superseded by d f o g = is_callers v op Superseded by refl f o (λ q. cc) (λ q. cc)
 none_decided v op SurveyOver by d f o g = is_callers v op SurveyOver by refl f o (λ q. cc) (λ q. cc)
 
--- what the core has read by it: that it is pending, where nobody has ended it
+-- what the core has read in it: that the operation is pending, where it has not ended
 pub look_reads : (d e : OpWords) (t : Moment) (op : OpName) (s : Begun) (phase : Phase) (by : ℕ) (r : Option Decision) → OpWordsStand d t → Lawful t → pending (past t) op ≡ Some s → GoneAs r phase by → CoreSaw d.seat.view (of_op op phase by) e.seat.view → LookReads r op d.seat.view.reads e.seat.view.reads
 look_reads d e t op s Idle by r h l p g k = absurd (k.1.begun.0 (name_is d t op s h l p).1 refl)
 look_reads d e t op s Pending by r h l p g k =

@@ -15,7 +15,7 @@ use Rattle.core_state.specs.declared.operations.EndedOperation.{EndedOperation}
 use Rattle.core_state.specs.OperationsStand.{Holds, AreBySlot, Apart, AreAllSlots, IsWornOut}
 use Rattle.core_state.proofs.Outcomes.{none_by_slot, none_counted}
 
--- ---- Numbers that stand once
+-- ---- Numbers that occur once
 
 has_push : (xs : List ℕ) (x y : ℕ) → has (xs ++ x ∷ []) y ≡ (has xs y || (x == y))
 has_push [] x y = go (x == y)

@@ -1,4 +1,4 @@
--- The places of the slots go with the operations that ended and were not collected.
+-- The places of the slots match the operations that ended and were not collected.
 use Rattle.std.proofs.Common.{◌≡◌, refl, ap, sym, ◌∙◌, List, [], ◌∷◌, ◌++◌, ℕ, zero, suc, ◌+◌, ◌<◌, Bool, true, false, cond, arith, Option, Some, None, length, get_or, set, replicate, inl, inr}
 use Rattle.std.specs.Prelude.{filter, is_some, not, ◌||◌, ◌==◌, ◌⊎◌, ◌≢◌}
 use Rattle.std.specs.List.{list_any, count_by}
@@ -23,7 +23,7 @@ use Rattle.core_state.proofs.Elements.{stands-more}
 -- ---- Elements
 
 module _ {A : Type 0} where
-  -- one of a list with one more
+  -- an element of a list with one more element
   stands_last : (xs : List A) (x y : A) → Stands x (xs ++ y ∷ []) → Stands x xs ⊎ (y ≡ x)
   stands_last [] x y (inl e) = inr e
   stands_last [] x y (inr s) = absurd s
@@ -39,7 +39,7 @@ module _ {A : Type 0} where
   stands_prefix (w ∷ xs) ys x (inl e) = inl e
   stands_prefix (w ∷ xs) ys x (inr s) = inr (stands_prefix xs ys x s)
 
-  -- what is kept passes the test
+  -- an element that is kept passes the test
   stands_kept : (p : A → Bool) (xs : List A) (x : A) → Stands x (filter p xs) → Stands x xs × (p x ≡ true)
   stands_kept p [] x s = absurd s
   stands_kept p (w ∷ xs) x s = go (p w) refl s (stands_kept p xs x)
@@ -82,7 +82,7 @@ named_any (r ∷ es) op e s n = go (same_op r.begun.op op) refl s (λ m. named_a
 
 -- ---- What a place tells
 
--- whether the operation ended and was not collected
+-- the operation ended and was not collected, or not
 pub told_by : (s : Operations) (op : OpName) (t : Moment) → OperationsStand [] s t → is_uncollected (past t) op ≡ is_done_of op (done_at s.done.items op.slot)
 told_by s op t h = go (done_at s.done.items op.slot) refl (is_uncollected (past t) op) refl
   where
@@ -109,7 +109,7 @@ told_by s op t h = go (done_at s.done.items op.slot) refl (is_uncollected (past 
             let is : k.0.begun.op ≡ op = ap (λ (x : EndedOperation). x.op) (sym k.3) ∙ same_op-eq d.op op f in
             sym e ∙ named_any (uncollected (past t)) op k.0 k.1 is
 
--- what stands there of an operation that was not collected
+-- what is at the place of an operation that was not collected
 pub has_done : (s : Operations) (op : OpName) (t : Moment) → OperationsStand [] s t → is_uncollected (past t) op ≡ true → (d : EndedOperation) × (done_at s.done.items op.slot ≡ Some d) × (d.op ≡ op)
 has_done s op t h u =
     let e = any_named (uncollected (past t)) op u in

@@ -1,4 +1,4 @@
--- Empty places are taken out, from the front on.
+-- Empty places are removed, from the front.
 use Rattle.std.proofs.Common.{◌≡◌, refl, ap, sym, ◌∙◌, subst, List, [], ◌∷◌, ◌++◌, append_assoc, append-nil, ℕ, ◌-◌, ◌<◌, ◌≤◌, Bool, true, false, arith, length, Some, None}
 use Rattle.std.specs.Prelude.{◌==◌, ◌||◌, Option}
 use Rattle.std.proofs.lemmas.List.{map-append}
@@ -7,7 +7,7 @@ use Rattle.core_state.specs.declared.pipes.PipePlace.{PipePlace}
 use Rattle.core_state.specs.Pipes.{UpPipe, numbers, held, before_others, IsRising}
 use Rattle.core_state.proofs.PipesInOrder.{held_more}
 
--- of the places that were, some are left to be looked at, and these are kept
+-- of the former places, some are left to be looked at, and these are kept
 abbrev pub PackedTo : {W : Type 0} → List (PipePlace W) → List (PipePlace W) → ℕ → Type 0
 PackedTo {W = W} old now left =
     (rest kept : List (PipePlace W)) × (now ≡ rest ++ kept) × (length rest ≡ left) × (held old ≡ held kept ++ held rest) × ((q : ℕ) → IsRising (numbers old ++ q ∷ []) → IsRising (numbers kept ++ (numbers rest ++ q ∷ [])))

@@ -36,7 +36,7 @@ tail_apart r ss h op = less (is_of op r) (occurs ss op) (h op)
     less true n h = omega (arith, h)
     less false n h = h
 
--- what stands there can be found by its name
+-- what is there can be found by its name
 pub among_named : (x : PendingOperation) (ss : List Begun) → AreApart ss → IsAmong x (map pending_of ss) → (s : Begun) × (find (is_of x.op) ss ≡ Some s) × (x ≡ pending_of s)
 among_named x [] a m = absurd m
 among_named x (r ∷ ss) a (inl e) =
@@ -97,7 +97,7 @@ pending_without (r ∷ ss) op = go (same_op r.op op) (pending_without ss op)
     go true h = h
     go false h = ap (λ (rest : List PendingOperation). pending_of r ∷ rest) h
 
--- ---- The timers are of pending operations
+-- ---- The timers belong to pending operations
 
 pub find-occurs : (ss : List Begun) (op : OpName) → 1 ≤ occurs ss op → (s : Begun) × (find (is_of op) ss ≡ Some s)
 find-occurs [] op h = absurd (omega arith)
@@ -111,7 +111,7 @@ Each-append : {X : Type 0} (P : X → Type 0) (xs ys : List X) → Each P xs →
 Each-append P [] ys h k = k
 Each-append P (x ∷ xs) ys h k = (h.0, Each-append P xs ys h.1 k)
 
--- what is kept passes the test
+-- an element that is kept passes the test
 Each-kept : {X : Type 0} (P Q : X → Type 0) (p : X → Bool) (xs : List X) → ((x : X) → p x ≡ true → P x → Q x) → Each P xs → Each Q (filter p xs)
 Each-kept P Q p [] w h = tt
 Each-kept P Q p (x ∷ xs) w h = go (p x) refl (Each-kept P Q p xs w h.1)

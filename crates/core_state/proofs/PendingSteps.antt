@@ -27,7 +27,7 @@ none_named : (x : PendingOperation) (xs : List PendingOperation) → NotIn x.op.
 none_named x [] n = refl
 none_named x (y ∷ ys) n = rw (unnamed x y n.0) (ap (λ (zs : List PendingOperation). y ∷ zs) (none_named x ys n.1))
 
--- what stands before the operation and behind it
+-- the operations before this one and after it
 pub record Split (x : PendingOperation) (xs : List PendingOperation) : Type 0 where
   pub fs : List PendingOperation
   pub gs : List PendingOperation
@@ -113,7 +113,7 @@ module _ (slots : ℕ) (places : List (Option PendingOperation)) where
   slot_below i (x ∷ xs) p (inl s) = omega (arith, p.0, s)
   slot_below i (x ∷ xs) p (inr m) = slot_below i xs p.2 m
 
-  -- a place of a ring stands in the lists of places
+  -- a place of a ring is in the lists of places
   member_below : (n e i : ℕ) (xs : List PendingOperation) → ArePlaced slots places xs → e < n → slots ≤ n → IsIn i (e ∷ map slot_of xs) → i < n
   member_below n e i xs p l k (inl s) = omega (arith, l, s)
   member_below n e i xs p l k (inr m) = omega (arith, k, slot_below i xs p m)
@@ -135,7 +135,7 @@ module _ (slots : ℕ) (places : List (Option PendingOperation)) where
   placed_here x (y ∷ ys) h (inl e) = subst (λ (z : PendingOperation). (z.op.slot < slots) × (place_at places z.op.slot ≡ Some z)) e (h.0, h.1)
   placed_here x (y ∷ ys) h (inr m) = placed_here x ys h.2 m
 
-  -- what stands at the places of these is these
+  -- what is at the places of these is these
   all_placed : (xs : List PendingOperation) → ArePlaced slots places xs → placed places (map slot_of xs) ≡ xs
   all_placed [] h = refl
   all_placed (x ∷ xs) h = ap (λ (o : Option PendingOperation). with_one o (placed places (map slot_of xs))) h.1 ∙ ap (λ (zs : List PendingOperation). x ∷ zs) (all_placed xs h.2)
@@ -156,7 +156,7 @@ module _ (slots : ℕ) (places : List (Option PendingOperation)) where
       let y = on_bucket m j xs h b in
       o (sym x.2 ∙ ap (λ (z : PendingOperation). bucket_of slots z.ctx) (same_Some x.0 y.0 (sym x.1 ∙ ap (place_at places) s ∙ y.1)) ∙ y.2)
 
-  -- a member of one bucket's ring is none of another's
+  -- a member of one bucket's ring is in no other bucket's ring
   elsewhere : (n m i : ℕ) (xs : List PendingOperation) → n ≢ m → ArePlaced slots places xs → IsIn i ((slots + n) ∷ map slot_of (in_bucket slots n xs)) → NotIn i ((slots + m) ∷ map slot_of (in_bucket slots m xs))
   elsewhere n m i xs o h (inl s) =
       ((λ t. o (omega (arith, s, t))), subst (λ (k : ℕ). NotIn k (map slot_of (in_bucket slots m xs))) s (head_out (slots + n) (in_bucket slots m xs) (omega arith) (placed_filter (λ x. bucket_of slots x.ctx == m) slots places xs h)))
@@ -325,7 +325,7 @@ module _ (slots : ℕ) (places fewer : List (Option PendingOperation)) (o l p q 
 
 -- ---- The next one
 
--- the place behind this one tells what comes
+-- the place after this one tells what comes next
 abbrev pub Tells : ℕ → List (Option PendingOperation) → List ℕ → ℕ → ℕ → Option PendingOperation → Type 0
 Tells slots places f a e r = (at f a ≡ e → r ≡ None) × (at f a ≢ e → (at f a < slots) × (place_at places (at f a) ≡ r))
 
@@ -342,9 +342,9 @@ module _ (slots : ℕ) (places : List (Option PendingOperation)) (f b : List ℕ
       let no : is_named x.op y ≡ false = unnamed x y (apart (map slot_of ys) y.op.slot x.op.slot d.0 (among_in x ys m)) in
       subst (λ (c : Bool). Tells slots places f x.op.slot e (cond c (first_of ys) (behind x.op ys))) (sym no) (behind_is y.op.slot x ys m d.1 h.2 p.2 l)
 
--- ---- What the calls ask
+-- ---- What the calls require
 
--- within a list what it has beyond its end doesn't count
+-- within a list the default for places beyond its end doesn't matter
 any_default : {A : Type 0} (xs : List A) (i : ℕ) (d e : A) → i < length xs → get_or xs i d ≡ get_or xs i e
 any_default [] i d e l = absurd (omega (arith, l))
 any_default (x ∷ xs) zero d e l = refl
@@ -359,7 +359,7 @@ among_filter p x (y ∷ ys) e (inr m) = go (p y) (among_filter p x ys e m)
     go true k = inr k
     go false k = k
 
--- this place tells what comes, if it isn't the head
+-- this place tells what comes next, if it isn't the head
 abbrev pub PlaceTells : List (Option PendingOperation) → ℕ → ℕ → Option PendingOperation → Type 0
 PlaceTells places n head r = (n ≡ head → r ≡ None) × (n ≢ head → (n < length places) × ((d : Option PendingOperation) → get_or places n d ≡ r))
 

@@ -1,4 +1,4 @@
--- The pipes go with a history that goes on.
+-- The pipes match a history that goes on.
 use Rattle.std.proofs.Common.{◌≡◌, ◌≢◌, refl, ap, sym, ◌∙◌, subst, List, [], ◌∷◌, ◌++◌, ℕ, zero, suc, ◌+◌, ◌<◌, Bool, true, false, arith, length, get_or, set, length-set, length-append, Some, None}
 use Rattle.std.specs.Prelude.{remove, ◌==◌, Option, is_some}
 use Rattle.std.specs.VecDeque.{deque_capacity}
@@ -31,7 +31,8 @@ use Rattle.core_state.proofs.ChangedWires.{same_number, equal_numbers, has_at, d
 
 -- ---- Places
 
--- the pipe of a place that is not empty, among those that are up: where it stands, and what changing or emptying the place does
+-- the pipe of a place that is not empty, among those that are up: its rank, and what changing or emptying the place
+-- does
 record Ranked {W : Type 0} (xs : List (PipePlace W)) (i p : ℕ) (w : W) : Type 0 where
   rank : ℕ
   inside : rank < length (held xs)
@@ -123,7 +124,7 @@ module _ {W : Type 0} (shown : W → WireView) where
       let left = All-append (λ (z : UpPipe W). IsUpWire before z.id (shown z.wire)) _ _ (All-take (λ (z : UpPipe W). IsUpWire before z.id (shown z.wire)) i xs all) (All-drop (λ (z : UpPipe W). IsUpWire before z.id (shown z.wire)) (suc i) xs all) in
       All-weaker (λ (z : UpPipe W). IsUpWire before z.id (shown z.wire)) (λ (z : UpPipe W). IsUpWire (Down p why ∷ before) z.id (shown z.wire)) (λ x h. record { agrees = h.agrees; is_open = h.is_open }) (remove xs i) left
 
-  -- those that are down and not taken stay so
+  -- those that are down and not taken stay down
   down_stay : (z : Setting) (ds : List (DownPipe W)) (before : List Entry) (p : ℕ) (e : Entry) → has (down_ids ds) p ≡ false → IsOf p e → All (λ (x : DownPipe W). IsDownWire z before x.id x.why (shown x.wire)) ds → All (λ (x : DownPipe W). IsDownWire z (e ∷ before) x.id x.why (shown x.wire)) ds
   down_stay z ds before p e h is all = λ k d m.
       let there : get_or (down_ids ds) k 0 ≡ (get_or ds k d).id = get_or-map (λ (x : DownPipe W). x.id) ds k d 0 m in
@@ -187,7 +188,7 @@ module _ {W : Type 0} (shown : W → WireView) where
     few = rw (still.down, us, length-set (up_pipes l) r v) h.few;
   }
 
-  -- one entry more of a pipe that stays up
+  -- one more entry of a pipe that stays up
   carried_on : (l m : Pipes W) (t : Moment) (e : Entry) (r : ℕ) (u v : UpPipe W) → Lawful t → PipesStand shown l t → r < length (up_pipes l) → u ≡ get_or (up_pipes l) r u → v.id ≡ u.id → IsOf u.id e → up (e ∷ past t) ≡ up (past t) → ups (e ∷ past t) ≡ ups (past t) → untaken (e ∷ past t) ≡ untaken (past t) → IsUpWire (e ∷ past t) v.id (shown v.wire)
       → up_pipes m ≡ set (up_pipes l) r v → SamePlaces l m → PipesStand shown m (also t e)
   carried_on l m t e r u v lawful h inside at same is stay most quiet new us still =
@@ -249,7 +250,7 @@ module _ {W : Type 0} (shown : W → WireView) where
         still_at l m i p w there.inside (us ∙ ap (λ (q : ℕ). set l.places.items i (record { id = q; wire = Some w })) id),
       )
 
-  -- and nothing is recorded
+  -- and nothing else is recorded
   pub moved_alone : (l m : Pipes W) (t : Moment) (i p : ℕ) (x : PipePlace W) (v w : W) → PipesStand shown l t → IsPipeAt l i p → x ≡ get_or l.places.items i x → x.wire ≡ Some v
       → (IsUpWire (past t) p (shown v) → IsUpWire (past t) p (shown w)) → m.places.items ≡ set l.places.items i (record { id = x.id; wire = Some w }) → m.down ≡ l.down → m.count ≡ l.count → PipesStand shown m t × IsPipeAt m i p
   moved_alone l m t i p x v w h there at holds goes us ds cs =
@@ -261,7 +262,7 @@ module _ {W : Type 0} (shown : W → WireView) where
         still_at l m i p w there.inside (us ∙ ap (λ (q : ℕ). set l.places.items i (record { id = q; wire = Some w })) id),
       )
 
-  -- the place is empty now, where its wire shows why
+  -- the place is empty now, and its wire shows why
   pub emptied : (l k m : Pipes W) (t : Moment) (i p : ℕ) (x : PipePlace W) (v w : W) (why : Why) → Lawful t → PipesStand shown l t → IsPipeAt l i p → x ≡ get_or l.places.items i x → x.wire ≡ Some v → (IsUpWire (past t) p (shown v) → GoesDown t.z (past t) p why (shown w))
       → k.places.items ≡ set l.places.items i (record { id = x.id; wire = Some w }) → k.down ≡ l.down → k.count ≡ l.count → EmptiesPlace i why k m → PipesStand shown m (also t (Down p why))
   emptied l k m t i p x v w why lawful h there at holds goes us ds cs out =
@@ -274,7 +275,7 @@ module _ {W : Type 0} (shown : W → WireView) where
       subst (λ (q : ℕ). PipesStand shown m (also t (Down q why))) id
       (went_down l m t r.rank (record { id = x.id; wire = v }) w why lawful h r.inside r.is so (ap held left ∙ r.emptied) (ap numbers left ∙ numbers_same l.places.items i x None at) (out.count ∙ cs) (out.down y w now refl ∙ ap (λ (d : _). d.items ++ record { id = x.id; why = why; wire = w } ∷ []) ds) (out.room ∙ ap deque_capacity ds))
 
-  -- ---- What the calls ask
+  -- ---- What the calls require
 
   some_up : (l : Pipes W) (i p : ℕ) → IsPipeAt l i p → 0 < length (up_pipes l)
   some_up l i p there =
@@ -291,7 +292,7 @@ module _ {W : Type 0} (shown : W → WireView) where
   pub has_place : (l : Pipes W) (t : Moment) (i p : ℕ) → PipesStand shown l t → IsPipeAt l i p → HasPlace l i
   has_place l t i p h there = record { inside = there.inside; is_up = λ x at. (there.is x at).1; counted = let n = some_up l i p there in let c = h.count_is in omega (arith, n, c) }
 
-  -- and with another wire
+  -- and has it with another wire
   pub keeps_place : (l k : Pipes W) (t : Moment) (i p q : ℕ) (w : W) → PipesStand shown l t → IsPipeAt l i p → k.places.items ≡ set l.places.items i (record { id = q; wire = Some w }) → k.count ≡ l.count → HasPlace k i
   keeps_place l k t i p q w h there us cs = record {
     inside = (still_at l k i q w there.inside us).inside;

@@ -1,4 +1,4 @@
--- The pipes that are up stand in the order of their numbers, so a number is found by halving.
+-- The pipes that are up are in the order of their numbers, so a number is found by halving.
 use Rattle.std.proofs.Common.{◌≡◌, refl, ap, sym, ◌∙◌, List, [], ◌∷◌, ◌++◌, ℕ, zero, suc, ◌<◌, ◌≤◌, Bool, true, false, cond, arith, length, get_or, subst, Some, None}
 use Rattle.std.specs.Prelude.{◌==◌, ◌||◌, not, nat_lt, is_some, Option, ◌+◌}
 use Rattle.std.specs.List.Sorted.{IsPartitionedBy, IsPartitionPoint}
@@ -182,7 +182,7 @@ unequal : (a b : ℕ) → a ≡ b → (a == b) ≡ false → ⊥
 unequal a b e n = absurd (grind (arith, nat_tests))
 
 module _ {W : Type 0} where
-  -- a place in front of another has the lower number
+  -- a place before another has the lower number
   pub number_to : (xs : List (PipePlace W)) (i j : ℕ) (x y : PipePlace W) → IsRising (numbers xs) → i ≤ j → j < length xs → x ≡ get_or xs i x → y ≡ get_or xs j y → x.id ≤ y.id
   number_to xs i j x y h l m at to =
       let least : get_or (numbers xs) i 0 ≤ get_or (numbers xs) j 0 = rises_to (numbers xs) i j h l (simp length-map m) in
@@ -244,7 +244,7 @@ module _ {W : Type 0} (shown : W → WireView) where
   pub places_rise : (l : Pipes W) (t : Moment) → PipesStand shown l t → IsRising (numbers l.places.items)
   places_rise l t h = rising_part (numbers l.places.items) ((ups (past t) + 1) ∷ []) h.in_order
 
-  -- the pipes of the places in front of this one have no number above
+  -- the pipes of the places before this one have no number above
   abbrev pub NoneBefore : Pipes W → ℕ → ℕ → Type 0
   NoneBefore l i p = (t : Moment) → PipesStand shown l t → (j : ℕ) (x : PipePlace W) → j < i → x ≡ get_or l.places.items j x → is_some x.wire ≡ true → x.id ≤ p
 

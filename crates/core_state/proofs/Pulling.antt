@@ -48,7 +48,7 @@ pub quieted : (before : List Entry) (p : ℕ) (w v : WireView) → IsUpWire befo
 quieted before p w v h a =
     record { agrees = quiet_agrees before p (state_of w) (state_of v) h.agrees (ap state_of a); is_open = ap (λ (x : WireView). x.is_open) a ∙ h.is_open }
 
--- the wire shows why its pipe goes down, and the core doesn't close
+-- the wire shows why its pipe goes down, and the core isn't closing
 abbrev pub GoesDownSo : Setting → List Entry → ℕ → Why → WireView → WireView → Type 0
 GoesDownSo z before p why w v = (Agrees before p (state_of w) → GoesDown z before p why v) × (why ≢ whys.Closed)
 

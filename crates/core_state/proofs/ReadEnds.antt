@@ -1,4 +1,4 @@
--- What a caller's seat has read of an operation, by what its call returned.
+-- What a caller's seat has read of an operation, according to what its call returned.
 use Rattle.std.proofs.Common.{◌≡◌, ap, sym, subst, Bool, true, false, ◌++◌}
 use Rattle.sp_base.specs.declared.OpName.{OpName}
 use Rattle.aio_word.specs.declared.phase.Phase.TheVariants as phase

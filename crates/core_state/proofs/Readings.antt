@@ -36,7 +36,7 @@ each_push : (op : OpName) (es : List words.ShownOperation) (e : words.ShownOpera
 each_push op [] e h k = (k, tt)
 each_push op (d ∷ es) e h k = (h.0, each_push op es e h.1 k)
 
--- a read more
+-- one more read
 saw_more : (v w x : WordsView) (others : List words.ShownOperation) (e : words.ShownOperation) → w ≡ record v { reads = v.reads ++ others } → x ≡ saw w e → x ≡ record v { reads = v.reads ++ others ++ e ∷ [] }
 saw_more v w x others e h k = k ∙ ap (λ (y : WordsView). saw y e) h
 
@@ -56,7 +56,7 @@ read_last op p by v w x g h = record { others = g.0; are_others = g.1; read = sa
 
 -- ---- What the core finds
 
--- the core's words with what the seat has read
+-- the core's words with the reads of the seat
 abbrev pub with_reads : OpWords → WordsView → OpWords
 with_reads d v = record { words = d.words; seat = let x : Sight = record { words = d.seat.words; view = learned d.seat.view v } in x }
 

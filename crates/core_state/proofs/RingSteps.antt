@@ -100,7 +100,7 @@ after_in f b a [] e x h m = absurd m
 after_in f b a (y ∷ ys) e x h (inl s) = more_in e y (at f x) ys (subst (λ (i : ℕ). IsIn (at f i) (e ∷ ys)) s (first_in f b y ys e h.2))
 after_in f b a (y ∷ ys) e x h (inr m) = more_in e y (at f x) ys (after_in f b y ys e x h.2 m)
 
--- what changes elsewhere leaves a path fs it is
+-- a path stays as it is where something changes elsewhere
 pub kept : (f b : List ℕ) (p v q w a : ℕ) (xs : List ℕ) (e : ℕ) → NotIn p (a ∷ xs) → NotIn q (e ∷ xs) → IsPath f b a xs e → IsPath (set f p v) (set b q w) a xs e
 kept f b p v q w a [] e n m h = (get_or-set_other f p a v 0 n.0 ∙ h.0, get_or-set_other b q e w 0 m.0 ∙ h.1)
 kept f b p v q w a (x ∷ xs) e n m h = (get_or-set_other f p a v 0 n.0 ∙ h.0, get_or-set_other b q x w 0 m.1.0 ∙ h.1, kept f b p v q w x xs e n.1 (m.0, m.1.1) h.2)

@@ -1,4 +1,4 @@
--- What is counted goes with a history that goes on.
+-- The counts match a history that goes on.
 use Rattle.std.proofs.Common.{◌≡◌, ap, sym, ◌∙◌, false, length}
 use Rattle.sp_history.specs.declared.entry.Entry.{Entry}
 use Rattle.sp_history.specs.declared.entry.Totals.{Totals}

@@ -21,7 +21,7 @@ middle : (fs : List PendingOperation) (x : PendingOperation) (gs : List PendingO
 middle [] x gs = inl refl
 middle (f ∷ fs) x gs = inr (middle fs x gs)
 
--- the operation is named by none before it
+-- no operation before this one has its name
 before_unnamed : (f : PendingOperation) (fs : List PendingOperation) (x : PendingOperation) (gs : List PendingOperation) → Differ (map slot_of ((f ∷ fs) ++ x ∷ gs)) → is_named x.op f ≡ false
 before_unnamed f fs x gs d = unnamed x f (apart (map slot_of (fs ++ x ∷ gs)) f.op.slot x.op.slot d.0 (among_in x (fs ++ x ∷ gs) (middle fs x gs)))
 
@@ -47,7 +47,7 @@ one_before (f ∷ fs) x gs = ap (λ (zs : List PendingOperation). f ∷ zs) (one
 
 -- ---- One step
 
--- the walk goes from the operation to the one behind it, whether the operation stays or is taken out
+-- the walk goes from the operation to the next one, whether the operation stays or is taken out
 pub record Step (x : PendingOperation) (xs : List PendingOperation) : Type 0 where
   pub rest : List PendingOperation
   pub here : left_of (Some x) xs ≡ x ∷ rest
@@ -103,7 +103,7 @@ bucket_step slots n x xs m d = step x (in_bucket slots n xs) m (differ_filter (�
 
 -- ---- One of a context
 
--- each of the context that stands in the one list stands in the other
+-- each of the context that is in one list is in the other
 abbrev pub AreLeft : ℕ → List PendingOperation → List PendingOperation → Type 0
 AreLeft c xs left = (x : PendingOperation) → IsAmong x xs → x.ctx ≡ c → IsAmong x left
 

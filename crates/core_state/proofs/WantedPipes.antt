@@ -134,6 +134,6 @@ one_alone (x ∷ []) p q l h k n = go (x == p) refl (x == q) refl h k
     go false d b e h k = absurd cc
     go true d false e h k = absurd cc
 
--- a frame of one pipe doesn't change whether another that is up is wanted
+-- a frame of one pipe doesn't change whether another one that is up is wanted
 pub frame_wants : (t : Moment) (p q : ℕ) (b : List ℕ) → Lawful t → has (up (past t)) p ≡ true → has (up (past t)) q ≡ true → (p == q) ≡ false → wanted t.z (Frame p b ∷ past t) q ≡ wanted t.z (past t) q
 frame_wants t p q b l h k n = frame_for t.z t.z.role t.z.raw (past t) p q b n (λ r. one_alone (up (past t)) p q (alone t l r) h k n)

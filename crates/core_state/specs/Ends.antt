@@ -1,4 +1,4 @@
--- How words and outcomes go with the ends of a history.
+-- How words and outcomes match the ends of a history.
 use Rattle.std.specs.Prelude.{⊤, ◌≡◌, ℕ, ◌≤◌}
 use Rattle.sp_base.specs.declared.OpName.{OpName}
 use Rattle.sp_msg.specs.Views.{MessageView}
@@ -29,7 +29,7 @@ phase_for Closed = phase.Shut
 phase_for Superseded = phase.Superseded
 phase_for SurveyOver = phase.SurveyOver
 
--- what the core's seat has of an end
+-- what the core's seat has recorded of an end
 abbrev pub end_of : OpName → Ending → word.ShownOperation
 end_of op (Won r) = of_op op phase.Won 0
 end_of op (Gone cause by) = of_op op (phase_for cause) by
@@ -46,12 +46,12 @@ IsCallers _ = ⊥
 abbrev pub view_of : RecordedMessage → MessageView
 view_of m = record { header = m.header; body = m.body }
 
--- the message that a send hands back
+-- the message that a send returns
 abbrev pub back_of : RecordedAct → Option MessageView
 back_of Recv = None
 back_of (Send m) = Some (view_of m)
 
--- what is collected of an operation that ended so
+-- what is collected of an operation with this end
 abbrev pub outcome_of : Begun → Ending → Outcome
 outcome_of s (Won (won.Received m)) = out.Received (view_of m)
 outcome_of s (Won won.Sent) = out.Sent

@@ -1,4 +1,4 @@
--- The errors of NNG that causes are.
+-- The NNG errors for causes.
 use Rattle.sp_base.specs.declared.error.SpError.{SpError}
 use Rattle.sp_base.specs.declared.error.SpError.TheVariants as number
 use Rattle.core_state.specs.declared.causes.BeginError.{BeginError}

@@ -1,4 +1,4 @@
--- The words and the core's seat go with a history.
+-- How the words and the core's seat match a history.
 use Rattle.std.specs.Prelude.{◌≡◌, ◌⊎◌, ℕ, ◌<◌, ◌≤◌, List, map, length, slice_index, Option, Some, None, ◌+◌, ◌^◌, true}
 use Rattle.sp_base.specs.declared.OpName.{OpName}
 use Rattle.sp_history.specs.declared.entry.Ending.{Ending}
@@ -30,7 +30,7 @@ pub record Sees (d : OpWords) (slots callers : ℕ) (es : List (OpName × Ending
 abbrev pub OpWordsStand : OpWords → Moment → Type 0
 OpWordsStand d t = Sees d t.z.slots t.z.callers (ends (past t)) (begins (past t))
 
--- the operation ended, as its word says: the core has won it, whatever for, or a caller has ended it
+-- the operation ended, as its word says: the core has won it, for any cause, or a caller has ended it
 abbrev pub DecidedAs : Decision → OpName → Moment → OpWords → Type 0
 DecidedAs decision.Won op t d = (r : ending.Completion) → OpWordsStand d (also t (End op (Won r)))
 DecidedAs (decision.Gone cause by) op t d = IsCallers cause × (1 ≤ by) × (by ≤ t.z.callers) × OpWordsStand d (also t (End op (Gone cause by)))
@@ -41,13 +41,13 @@ FinishedAs why decision.Won op t d = ⊥
 FinishedAs why (decision.Gone cause by) op t d =
     (((cause ≡ why) × (by ≡ 0)) ⊎ (IsCallers cause × (1 ≤ by) × (by ≤ t.z.callers))) × OpWordsStand d (also t (End op (Gone cause by)))
 
--- which phases are a caller's
+-- the phases that are a caller's
 abbrev pub GoneAs : Option Decision → Phase → ℕ → Type 0
 GoneAs result phase.Cancelled by = result ≡ Some (decision.Gone causes.Cancelled by)
 GoneAs result phase.Expired by = result ≡ Some (decision.Gone causes.TimedOut by)
 GoneAs result _ by = result ≡ None
 
--- the name is the next of a free slot
+-- the name is the next one of a free slot
 pub record IsNext (t : Moment) (op : OpName) : Type 0 where
   pub inside : op.slot < t.z.slots
   pub free : is_free (past t) op.slot ≡ true

@@ -1,4 +1,4 @@
--- The lists of operations go with a history.
+-- How the lists of operations match a history.
 use Rattle.std.specs.Prelude.{◌≡◌, ◌⊎◌, ◌↔◌, ℕ, zero, suc, ◌+◌, ◌-◌, ◌^◌, ◌<◌, ◌≤◌, Bool, true, false, Option, Some, None, is_some, List, [], ◌∷◌, map, filter, length, slice_index_or, vec_capacity}
 use Rattle.std.specs.List.{All}
 use Rattle.aio_expire.specs.declared.deadlines.Deadline.{Deadline}
@@ -19,7 +19,7 @@ use Rattle.core_state.specs.declared.operations.EndedOperation.{EndedOperation}
 use Rattle.core_state.specs.Ends.{done_of, outcome_of}
 use Rattle.core_state.specs.declared.outcome.Outcome.{Outcome}
 
--- none stands there twice
+-- no number occurs twice
 abbrev pub Apart : List ℕ → Type 0
 Apart [] = Unit {0}
 Apart (x ∷ xs) = (has xs x ≡ false) × Apart xs
@@ -38,7 +38,7 @@ deadlines_of ds = map deadline_of (by_deadline ds)
 abbrev pub IsWornOut : ℕ → Type 0
 IsWornOut generation = generation ≡ 2 ^ 40 - 1
 
--- what stands at the slot's place
+-- what is at the slot's place
 abbrev pub done_at : List (Option EndedOperation) → ℕ → Option EndedOperation
 done_at xs slot = slice_index_or xs slot None
 
@@ -47,15 +47,15 @@ abbrev pub is_done_of : OpName → Option EndedOperation → Bool
 is_done_of op None = false
 is_done_of op (Some d) = same_op d.op op
 
--- how many operations ended and were not collected
+-- the number of operations that ended and were not collected
 abbrev pub done_count : Operations → ℕ
 done_count s = length (filter is_some s.done.items)
 
--- an operation of the slot ended so, and was not collected
+-- an operation of the slot ended like this, and was not collected
 abbrev pub HasDone : List OperationEnd → ℕ → EndedOperation → Type 0
 HasDone es slot d = (e : OperationEnd) × Stands e es × (e.begun.op.slot ≡ slot) × (d ≡ done_of e)
 
--- exactly what ended and was not collected stands at its slot's place
+-- exactly what ended and was not collected is at its slot's place
 abbrev pub AreBySlot : List (Option EndedOperation) → List OperationEnd → Type 0
 AreBySlot xs es = (slot : ℕ) (d : EndedOperation) → (done_at xs slot ≡ Some d) ↔ HasDone es slot d
 
@@ -81,11 +81,11 @@ OperationsStand drawn s t = Holds drawn s t.z.slots (pend (past t)) (uncollected
 abbrev pub AllTaken : Setting → List Entry → Type 0
 AllTaken z past = (i : ℕ) → i < z.slots → (is_free past i ≡ false) ⊎ IsWornOut (begins past i)
 
--- the numbers below n, each once, the greatest first
+-- the numbers below n, each once, the largest first
 abbrev pub AreAllSlots : ℕ → List ℕ → Type 0
 AreAllSlots zero xs = xs ≡ []
 AreAllSlots (suc n) xs = (rest : List ℕ) × (xs ≡ n ∷ rest) × AreAllSlots n rest
 
--- it ended and was not collected, and this is what it came to
+-- it ended and was not collected, and this is its outcome
 abbrev pub IsOutcomeOf : OperationEnd → OpName → List Entry → Outcome → Type 0
 IsOutcomeOf e op before r = Stands e (uncollected before) × (e.begun.op ≡ op) × (r ≡ outcome_of e.begun e.ending)

@@ -5,12 +5,13 @@ use Rattle.core_state.specs.declared.pending.PendingOperation.{PendingOperation}
 use Rattle.core_state.specs.declared.rings.Rings.{Rings}
 use Rattle.core_state.specs.Rings.{IsPath, walk}
 
--- what is seen of them: the slots are the numbers below `slots`, and the operations stand in the order of their begins
+-- what contracts see of them: the slots are the numbers below `slots`, and the operations are in the order of their
+-- begins
 pub record PendingView : Type 0 where
   pub slots : ℕ
   pub items : List PendingOperation
 
--- it is the operation of this name
+-- the operation has this name
 abbrev pub is_named : OpName → PendingOperation → Bool
 is_named op x = (x.op.slot == op.slot) && (x.op.generation == op.generation)
 
@@ -29,17 +30,17 @@ abbrev pub first_of : List PendingOperation → Option PendingOperation
 first_of [] = None
 first_of (x ∷ xs) = Some x
 
--- the one behind the operation
+-- the one after the operation
 abbrev pub behind : OpName → List PendingOperation → Option PendingOperation
 behind op [] = None
 behind op (x ∷ xs) = if is_named op x then first_of xs else behind op xs
 
--- one of this name stands there
+-- one of this name is there
 abbrev pub IsAmong : PendingOperation → List PendingOperation → Type 0
 IsAmong x [] = ⊥
 IsAmong x (y ∷ ys) = (y ≡ x) ⊎ IsAmong x ys
 
--- the operation and those behind it
+-- the operation and those after it
 abbrev pub from_on : OpName → List PendingOperation → List PendingOperation
 from_on op [] = []
 from_on op (x ∷ xs) = if is_named op x then x ∷ xs else from_on op xs
@@ -49,7 +50,7 @@ abbrev pub left_of : Option PendingOperation → List PendingOperation → List 
 left_of None xs = []
 left_of (Some x) xs = from_on x.op xs
 
--- the next one, if any, stands in the bucket
+-- the next one, if any, is in the bucket
 abbrev pub IsNextIn : Option PendingOperation → List PendingOperation → Type 0
 IsNextIn None xs = Unit {0}
 IsNextIn (Some x) xs = IsAmong x xs
@@ -58,7 +59,7 @@ IsNextIn (Some x) xs = IsAmong x xs
 abbrev pub others_than : OpName → List PendingOperation → List PendingOperation
 others_than op xs = filter (λ x. not (is_named op x)) xs
 
--- an operation of the context stands there, or none does
+-- an operation of the context is there, or none is
 abbrev pub FindsOn : Option OpName → ℕ → List PendingOperation → Type 0
 FindsOn r c xs = MatchOption r ((x : PendingOperation) → IsAmong x xs → x.ctx ≢ c) (λ op. (x : PendingOperation) × IsAmong x xs × (x.op ≡ op) × (x.ctx ≡ c))
 
@@ -72,16 +73,16 @@ abbrev pub NotIn : ℕ → List ℕ → Type 0
 NotIn i [] = Unit {0}
 NotIn i (x ∷ xs) = (x ≢ i) × NotIn i xs
 
--- none stands there twice
+-- no number occurs twice
 abbrev pub Differ : List ℕ → Type 0
 Differ [] = Unit {0}
 Differ (x ∷ xs) = NotIn x xs × Differ xs
 
--- what stands at the slot's place
+-- what is at the slot's place
 abbrev pub place_at : List (Option PendingOperation) → ℕ → Option PendingOperation
 place_at places slot = slice_index_or places slot None
 
--- each stands at its slot's place
+-- each is at its slot's place
 abbrev pub ArePlaced : ℕ → List (Option PendingOperation) → List PendingOperation → Type 0
 ArePlaced slots places [] = Unit {0}
 ArePlaced slots places (x ∷ xs) = (x.op.slot < slots) × (place_at places x.op.slot ≡ Some x) × ArePlaced slots places xs
@@ -90,7 +91,7 @@ abbrev pub with_one : Option PendingOperation → List PendingOperation → List
 with_one None xs = xs
 with_one (Some x) xs = x ∷ xs
 
--- what stands at these places
+-- what is at these places
 abbrev pub placed : List (Option PendingOperation) → List ℕ → List PendingOperation
 placed places [] = []
 placed places (i ∷ is) = with_one (place_at places i) (placed places is)

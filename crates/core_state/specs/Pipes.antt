@@ -1,4 +1,4 @@
--- The pipes go with a history.
+-- How the pipes match a history.
 use Rattle.std.specs.Prelude.{◌≡◌, ◌≢◌, ℕ, ◌+◌, ◌<◌, ◌≤◌, nat_lt, Bool, true, ⊤, List, map, length, slice_index_or, [], ◌∷◌, ◌++◌, Option, Some, None, is_some}
 use Rattle.std.specs.List.{All}
 use Rattle.std.specs.VecDeque.{deque_capacity}
@@ -42,7 +42,7 @@ numbers places = map (λ x. x.id) places
 abbrev pub is_below : {W : Type 0} → ℕ → PipePlace W → Bool
 is_below p x = nat_lt x.id p
 
--- the pipe with this wire, if there is one, before others
+-- the pipe with this wire, if there is one, before the others
 abbrev pub before_others : {W : Type 0} → ℕ → Option W → List (UpPipe W) → List (UpPipe W)
 before_others p None rest = rest
 before_others p (Some w) rest = record { id = p; wire = w } ∷ rest
@@ -63,8 +63,8 @@ IsRising (x ∷ xs) = ((y : ℕ) → has xs y ≡ true → x < y) × IsRising xs
 
 -- ---- Pipes and the history
 
--- these pipes are up and these are down and not taken, each with a wire that shows its history; the number of the next pipe
--- is above those of all places
+-- these pipes are up, and these are down and not taken, each with a wire that shows its history; the number of the next
+-- pipe is above those of all places
 pub record PipesCarry {W : Type 0} (shown : W → WireView) (l : Pipes W) (z : Setting) (past : List Entry) : Type 0 where
   pub up_is : ids (up_pipes l) ≡ up past
   pub up_wires : All (λ x. IsUpWire past x.id (shown x.wire)) (up_pipes l)
@@ -93,19 +93,19 @@ pub record HasPlace {W : Type 0} (l : Pipes W) (i : ℕ) : Type 0 where
 abbrev pub IsReadyAt : {W : Type 0} → (W → WireView) → Pipes W → ℕ → Type 0
 IsReadyAt shown l i = (x : PipePlace _) (w : _) → x ≡ slice_index_or l.places.items i x → x.wire ≡ Some w → (shown w).is_ready ≡ true
 
--- what asking the pipe for room came to
+-- the result of asking the pipe for room
 abbrev pub AskedAs : {W : Type 0} → (W → WireView) → Asked → ℕ → ℕ → Moment → Pipes W → Type 0
 AskedAs shown asked.Yes i p t l = PipesStand shown l t × IsPipeAt l i p × IsReadyAt shown l i
 AskedAs shown asked.Full i p t l = PipesStand shown l (also t (Full p))
 AskedAs shown (asked.Down why) i p t l = (why ≢ whys.Closed) × PipesStand shown l (also t (Down p why))
 
--- what flushing the pipe came to
+-- the result of flushing the pipe
 abbrev pub FlushedTo : {W : Type 0} → (W → WireView) → Flushed → ℕ → ℕ → Moment → Pipes W → Type 0
 FlushedTo shown flushed.Clear i p t l = PipesStand shown l (also t (Clear p)) × IsPipeAt l i p
 FlushedTo shown flushed.Stall i p t l = PipesStand shown l (also t (Stall p)) × IsPipeAt l i p
 FlushedTo shown (flushed.Down why) i p t l = (why ≢ whys.Closed) × PipesStand shown l (also t (Down p why))
 
--- what pulling from the pipe came to
+-- the result of pulling from the pipe
 abbrev pub PulledTo : {W : Type 0} → (W → WireView) → Pulled → ℕ → ℕ → Moment → Pipes W → Type 0
 PulledTo shown (pulled.Frame m) i p t l = (m.header ≡ []) × PipesStand shown l (also t (Frame p m.body)) × IsPipeAt l i p
 PulledTo shown pulled.Quiet i p t l = PipesStand shown l (also t (Quiet p))
@@ -116,7 +116,7 @@ abbrev pub TakenAs : {W : Type 0} → (W → WireView) → Option (DownPipe W) �
 TakenAs shown None t l = (untaken (past t) ≡ []) × PipesStand shown l t
 TakenAs shown (Some f) t l = (head_of (untaken (past t)) ≡ Some f.id) × IsDownWire t.z (past t) f.id f.why (shown f.wire) × PipesStand shown l (also t (Taken f.id))
 
--- there is room for one pipe more, and for all that are up and this one to go down
+-- there is room for one more pipe, and for all that are up and this one to go down
 pub record HasRoom {W : Type 0} (l : Pipes W) : Type 0 where
   pub places : length l.places.items < deque_capacity l.places
   pub down : l.count + length l.down.items < deque_capacity l.down

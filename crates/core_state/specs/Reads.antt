@@ -10,12 +10,12 @@ use Rattle.aio_word.specs.Word.{is_decided}
 use Rattle.aio_word.specs.Views.{Each}
 use Rattle.core_state.specs.declared.op_words.Decision.{Decision}
 
--- these reads, and maybe more
+-- these reads, and perhaps more
 pub record Grows (old new : List word.ShownOperation) : Type 0 where
   pub more : List word.ShownOperation
   pub is : new ≡ old ++ more
 
--- what looking at one word told
+-- what looking at one word showed
 abbrev pub LookReads : Option Decision → OpName → List word.ShownOperation → List word.ShownOperation → Type 0
 LookReads None op old new = new ≡ old ++ of_op op phase.Pending 0 ∷ []
 LookReads (Some decision) op old new = Grows old new
@@ -26,7 +26,8 @@ LookReads (Some decision) op old new = Grows old new
 abbrev pub IsEarlier : OpName → word.ShownOperation → Type 0
 IsEarlier op e = (e.slot ≡ op.slot) × ((e.generation ≢ op.generation) ⊎ (is_decided e.phase ≡ false))
 
--- the seat has read this of the operation last, after reads of its slot that show no end of it, and knows nothing else more
+-- the seat has read this of the operation last, after reads of its slot that show no end of it, and has learned nothing
+-- else
 pub record ReadAs (op : OpName) (p : Phase) (by : ℕ) (v w : WordsView) : Type 0 where
   pub others : List word.ShownOperation
   pub are_others : Each (IsEarlier op) others
@@ -41,6 +42,6 @@ abbrev pub ReadSo : Bool → OpName → WordsView → WordsView → Type 0
 ReadSo true op v w = ReadEnd op v w
 ReadSo false op v w = ReadAs op phase.Pending 0 v w
 
--- the last that the seat has read is an end of the operation
+-- the last read of the seat is an end of the operation
 abbrev pub HasReadEnd : OpName → WordsView → Type 0
 HasReadEnd op v = (reads : List word.ShownOperation) × (p : Phase) × (by : ℕ) × (is_decided p ≡ true) × (v.reads ≡ reads ++ of_op op p by ∷ [])

@@ -1,4 +1,4 @@
--- Places that stand in rings, each list of places a ring that ends at its head.
+-- Places in rings, each list of places a ring that ends at its head.
 use Rattle.std.specs.Prelude.{◌≡◌, ◌<◌, ◌==◌, ℕ, zero, suc, if◌then◌else◌, List, [], ◌∷◌, length, slice_index_or, set}
 use Rattle.core_state.specs.declared.rings.Rings.{Rings}
 
@@ -6,17 +6,17 @@ use Rattle.core_state.specs.declared.rings.Rings.{Rings}
 abbrev pub at : List ℕ → ℕ → ℕ
 at xs place = slice_index_or xs place 0
 
--- each of so many places leads to itself
+-- each of the places leads to itself
 pub record AreAlone (places : ℕ) (xs : List ℕ) : Type 0 where
   pub count : length xs ≡ places
   pub each : (i : ℕ) → i < places → at xs i ≡ i
 
--- from the one place through these in their order to the other, forth and back
+-- from the first place through these in their order to the other, forwards and backwards
 abbrev pub IsPath : List ℕ → List ℕ → ℕ → List ℕ → ℕ → Type 0
 IsPath after before a [] b = (at after a ≡ b) × (at before b ≡ a)
 IsPath after before a (x ∷ xs) b = (at after a ≡ x) × (at before x ≡ a) × IsPath after before x xs b
 
--- the places behind this one, until the end of its ring, so many at most
+-- the places after this one, until the end of its ring, at most `most` of them
 abbrev pub walk : List ℕ → ℕ → ℕ → ℕ → List ℕ
 walk after zero a end = []
 walk after (suc most) a end = if at after a == end then [] else at after a ∷ walk after most (at after a) end

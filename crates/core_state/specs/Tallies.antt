@@ -1,4 +1,4 @@
--- What is counted goes with a history.
+-- How the counts match a history.
 use Rattle.std.specs.Prelude.{◌≡◌, length, Bool, true, false}
 use Rattle.std.specs.List.{list_any}
 use Rattle.sp_history.specs.declared.entry.Entry.{Entry}

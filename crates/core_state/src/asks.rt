@@ -1,4 +1,4 @@
-//! What a machine is asked: what its kind of socket has, whether a context is open, and a copy of a send.
+//! Questions to a machine: what its kind of socket has, whether a context is open, and a copy of a send.
 ghost use Rattle.std.specs.Prelude.{◌≡◌, ◌+◌, ◌<◌, ◌≤◌, true, false, IsTrue};
 ghost use Rattle.sp_history.specs.Lists.{has};
 ghost use Rattle.sp_history.specs.Moments.{Moment, Lawful, past};
@@ -10,21 +10,21 @@ use sp_base::{Ctx, OpName, PipeId, Role};
 use sp_msg::Message;
 use sp_proto::{CheckError, Proto, Verb};
 
-/// Whether contexts can be opened.
+/// Returns whether contexts can be opened.
 pub fn has_ctxs<P: Proto>(proto: &P) -> bool
     ensures { (t : Moment) → P.ties proto.now t → result ≡ has_contexts t.z }
 {
     proto.role().contexts() && !proto.raw()
 }
 
-/// Whether contexts have topics.
+/// Returns whether contexts have topics.
 pub fn has_tops<P: Proto>(proto: &P) -> bool
     ensures { (t : Moment) → P.ties proto.now t → result ≡ has_topics t.z }
 {
     matches!(proto.role(), Role::Sub) && !proto.raw()
 }
 
-/// Whether the role has one pipe at a time, and some of the pipes, which are so many, are up.
+/// Returns whether the role has one pipe at a time, and of the `count` pipes some are up.
 pub fn has_its_one<P: Proto>(proto: &P, count: usize) -> bool
     ensures one { result ≡ true → (t : Moment) → P.ties proto.now t → IsTrue (is_pair t.z.role) × (0 < count) }
     ensures none { result ≡ false → (t : Moment) → P.ties proto.now t → IsTrue (is_pair t.z.role) → count ≡ 0 }
@@ -35,7 +35,7 @@ pub fn has_its_one<P: Proto>(proto: &P, count: usize) -> bool
     }
 }
 
-/// Whether the context is open, of a socket that has contexts.
+/// Returns whether the context is open, of a socket that has contexts.
 pub fn is_ctx_open<P: Proto>(proto: &P, c: Ctx) -> bool
     ensures { (t : Moment) → Lawful t → P.ties proto.now t → has_contexts t.z ≡ true → result ≡ has (ctxs (past t)) c }
 {

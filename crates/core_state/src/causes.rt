@@ -1,19 +1,19 @@
-//! Why calls of a core are refused. Each cause is an error of NNG.
+//! Why calls of a core are refused. Each cause is an NNG error.
 ghost use Rattle.std.specs.Prelude.{◌≡◌};
 ghost use Rattle.core_state.specs.Errors.{begin_number, now_number, attach_number, ctx_number, topic_number};
 
 use sp_base::SpError;
 
-/// Why nothing was begun, the first cause that stands. As an `SpError` it is an error of NNG (nng_strerror(3)).
+/// Why nothing was begun, for the first cause that applies. As an `SpError` it is an NNG error (nng_strerror(3)).
 #[derive(Clone, Copy, PartialEq, Eq, Debug)]
 pub enum BeginError {
     /// The socket is closed.
     Closed,
-    /// The role doesn't do it, or has no contexts.
+    /// The role doesn't support it, or has no contexts.
     NotSupported,
     /// No such context is open.
     NoEntry,
-    /// The protocol's state has no place for it.
+    /// The protocol's state doesn't allow it.
     State,
     /// Every slot that isn't worn has an operation that was not collected.
     Busy,
@@ -36,10 +36,10 @@ impl From<BeginError> for SpError {
     }
 }
 
-/// Why nothing was received at once (nng_recvmsg(3)), the first cause that stands.
+/// Why nothing was received at once (nng_recvmsg(3)), for the first cause that applies.
 #[derive(Clone, Copy, PartialEq, Eq, Debug)]
 pub enum NowError {
-    /// As no receive begins. Never for being out of memory.
+    /// No receive may begin. Never when out of memory.
     Begin(BeginError),
     /// Nothing is kept for the context.
     Again,
@@ -56,7 +56,7 @@ impl From<NowError> for SpError {
     }
 }
 
-/// Why a wire became no pipe (nng_pipe(5)), the first cause that stands.
+/// Why a wire didn't become a pipe (nng_pipe(5)), for the first cause that applies.
 #[derive(Clone, Copy, PartialEq, Eq, Debug)]
 pub enum AttachError {
     /// The socket is closed.
@@ -81,7 +81,7 @@ impl From<AttachError> for SpError {
     }
 }
 
-/// Why no context was opened or shut (nng_ctx(5)), the first cause that stands.
+/// Why no context was opened or shut (nng_ctx(5)), for the first cause that applies.
 #[derive(Clone, Copy, PartialEq, Eq, Debug)]
 pub enum CtxError {
     /// The socket is closed.
@@ -110,16 +110,16 @@ impl From<CtxError> for SpError {
     }
 }
 
-/// Why no topic was put on or taken off (nng_sub(7)), the first cause that stands.
+/// Why a topic was not changed (nng_sub(7)), for the first cause that applies.
 #[derive(Clone, Copy, PartialEq, Eq, Debug)]
 pub enum TopicError {
     /// The socket is closed.
     Closed,
-    /// It is no cooked sub.
+    /// The socket isn't a cooked sub.
     NotSupported,
-    /// No such context is open, or it has no such topic to take off.
+    /// No such context is open, or it has no such topic to remove.
     NoEntry,
-    /// A topic to put on has more than 1,024 bytes.
+    /// The topic to add has more than 1,024 bytes.
     TooLong,
     /// Out of memory.
     NoMemory,

@@ -1,4 +1,4 @@
-//! What a new core has beside its machine and its pipes, and the end of that.
+//! The parts of a new core other than its machine and its pipes, and their end.
 ghost use Rattle.std.specs.Prelude.{◌≡◌, ◌≤◌, ◌<◌, [], length, IfOk};
 ghost use Rattle.sp_history.specs.Moments.{Moment, past};
 ghost use Rattle.aio_word.specs.Fresh.{AreFresh};
@@ -11,7 +11,7 @@ use aio_word::{SeatList, words};
 use sp_base::NoMemory;
 use std::alloc::Global;
 
-/// The words with the core's seat, the lists of operations, and the callers' seats. Takes all their room.
+/// The words with the core's seat, the lists of operations, and the callers' seats. Takes all their memory.
 pub fn fresh_parts(
     alloc: Global,
     slots: u32,
@@ -30,7 +30,7 @@ pub fn fresh_parts(
     Ok((OpWords { words, seat }, operations, seats))
 }
 
-/// The words, with the core's seat, and the lists of operations end.
+/// Drops the words, with the core's seat, and the lists of operations.
 pub fn drop_parts(op_words: OpWords, operations: Operations) {
     drop(op_words);
     drop(operations);

@@ -1,4 +1,4 @@
-//! What leaves the lists of operations: deadlines that have come, and outcomes that are collected.
+//! What is taken from the lists of operations: deadlines that have come, and outcomes that are collected.
 ghost use Rattle.std.specs.Prelude.{◌≡◌, ◌+◌, ◌++◌, ◌≤◌, List, [], length};
 ghost use Rattle.sp_base.specs.declared.OpName.{OpName};
 ghost use Rattle.sp_history.specs.declared.entry.Entry.TheVariants as entries;
@@ -12,7 +12,7 @@ use crate::outcome::Outcome;
 use aio_expire::NameList;
 use sp_base::{Ctx, OpName, Tick};
 
-// Whether the operation's outcome stands at its slot's place.
+// Returns whether the operation's outcome is at its slot's place.
 fn is_there(done: &[Option<EndedOperation>], op: OpName) -> bool
     ensures { result ≡ is_done_of op (done_at done.now op.slot) }
 {
@@ -24,7 +24,7 @@ fn is_there(done: &[Option<EndedOperation>], op: OpName) -> bool
 }
 
 impl Operations {
-    /// Names the operations whose deadline is `now` or earlier, by deadline and then by slot. No one is named again.
+    /// Names the operations whose deadline is `now` or earlier, by deadline and then by slot. None is named again.
     pub fn due(&mut self, now: Tick, out: &mut NameList)
         requires { self.old.deadlines.schedule.slots ≤ out.old.spare }
         ensures names { (t : Moment) → OperationsStand [] self.old t → out.new.names ≡ out.old.names ++ due_at (past t) now }
@@ -35,14 +35,14 @@ impl Operations {
         self.deadlines.due(now, out);
     }
 
-    /// Whether the operation ended and was not collected.
+    /// Returns whether the operation ended and was not collected.
     pub fn has_ended(&self, op: OpName) -> bool
         ensures { TellsEnded result op self.now }
     {
         is_there(&self.done, op)
     }
 
-    /// A pending operation of the context.
+    /// Returns a pending operation of the context.
     pub fn some_on(&self, ctx: Ctx) -> Option<OpName>
         ensures { FindsOn result ctx self.now }
     {

@@ -1,24 +1,24 @@
 //! The state of a core, in parts: the words of its operations with its own seat, the lists of operations, the pipes with
 //! their wires, and the counts. The core itself, with its calls, is `sp_core`.
 //!
-//! Each part goes with a moment of the socket's history by one relation (`OpWordsStand`, `OperationsStand`,
-//! `PipesStand`, `Tallies`). Each of its calls leads from the relation at one moment to the relation with one entry
-//! more. No part knows the others.
+//! One relation ties each part to a moment of the socket's history (`OpWordsStand`, `OperationsStand`, `PipesStand`,
+//! `Tallies`). Each of its calls goes from the relation at one moment to the relation with one more entry. No part uses
+//! another.
 //!
 //! Who owns what: `OpWords` has the words, which callers share, and the core's one seat at them. `Operations` has the
 //! lists of pending and ended operations, the free slots and the deadlines, with all memory taken at the start. `Pipes`
-//! has each wire from the moment it becomes a pipe until it is taken. `Tally` has numbers alone. All of them belong to
+//! has each wire from the moment it becomes a pipe until it is taken. `Tally` has only numbers. All of them belong to
 //! one core.
 //!
-//! Operations that are pending stand by slot (`pending`), in doubly linked lists of slots (`rings`): one of all, in the
-//! order of their begins, and one for each bucket of contexts, in the same order. A context's bucket is the remainder of
-//! its number by the slots. To add or to take out an operation changes two neighbours in each of its two rings, and
-//! nothing is searched. Who wants those of a context walks its bucket and asks each whether it is of the context.
+//! Operations that are pending are kept by slot (`pending`), in doubly linked lists of slots (`rings`): one of all, in
+//! the order of their begins, and one for each bucket of contexts, in the same order. A context's bucket is its number
+//! modulo the number of slots. To add or to take out an operation changes two neighbours in each of its two rings, and
+//! nothing is searched. To find those of a context, its bucket is walked and each is tested for the context.
 //!
-//! The order to read: `op_words`, with `reading` for what callers' seats show; `operations`, with `pending` and `rings`,
-//! `leaving` for what goes out of the lists and `outcome` for what an operation ended with; `pipes`, with `wire_list` for what a closed core
-//! leaves; `tally`; `fresh`, which makes a new core's parts; and last `asks`, what a machine is asked, with `causes`
-//! and `served`, what calls of a core return.
+//! The order to read: `op_words`, with `reading` for what callers' seats show; `operations`, with `pending` and
+//! `rings`, `leaving` for what goes out of the lists and `outcome` for what an operation ended with; `pipes`, with
+//! `wire_list` for what a closed core leaves; `tally`; `fresh`, which makes a new core's parts; and last `asks`, the
+//! questions to a machine, with `causes` and `served`, what calls of a core return.
 #![tactic(auto)]
 
 mod asks;

@@ -11,10 +11,10 @@ use aio_word::{CoreSeat, Decided, Phase, Words};
 use sp_base::OpName;
 use sp_history::entry::Cause;
 
-/// What a word was decided to (nng_aio_result(3)).
+/// The decision of a word (nng_aio_result(3)).
 #[derive(Clone, Copy, PartialEq, Eq, Debug)]
 pub enum Decision {
-    /// The core's exchange took.
+    /// The core's exchange succeeded.
     Won,
     /// A caller's exchange came first.
     Gone { cause: Cause, by: u32 },
@@ -23,13 +23,13 @@ pub enum Decision {
 /// The words, with the one seat that begins and decides operations (nng_aio(5)).
 #[derive(Drop)]
 pub struct OpWords {
-    /// One word a slot.
+    /// One word for each slot.
     pub words: Words,
     /// The seat that begins and decides.
     pub seat: CoreSeat,
 }
 
-// How a caller ends an operation that its word shows so; no other phase comes here.
+// How a caller ended an operation whose word shows this phase; no other phase comes here.
 pub(crate) fn gone(phase: Phase, by: u32) -> Option<Decision>
     ensures { GoneAs result phase by }
 {
@@ -46,7 +46,7 @@ pub(crate) fn gone(phase: Phase, by: u32) -> Option<Decision>
     }
 }
 
-// How the word shows that an operation ended for this cause.
+// The phase of an operation that ended for this cause.
 fn phase_of(cause: Cause) -> Phase
     ensures { result ≡ phase_for cause }
 {
@@ -60,7 +60,7 @@ fn phase_of(cause: Cause) -> Phase
 }
 
 impl OpWords {
-    /// The name of the slot's next operation, or none where the slot is worn.
+    /// The name of the slot's next operation, or `None` where the slot is worn.
     pub fn next(&self, slot: u32) -> Option<OpName>
         requires { (t : Moment) × OpWordsStand self.now t × (slot < t.z.slots) }
         ensures { NamesNext result slot self.now }
@@ -129,7 +129,7 @@ impl OpWords {
         }
     }
 
-    /// How a caller ended the pending operation, or none where it is pending still.
+    /// How a caller ended the pending operation, or `None` where it is still pending.
     pub fn look(&mut self, op: OpName) -> Option<Decision>
         requires { HasPending self.old op }
         ensures looked { WherePending self.old op (λ t. LookedAs result op t self.new) }

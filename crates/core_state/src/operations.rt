@@ -18,7 +18,7 @@ use std::alloc::Global;
 pub struct EndedOperation {
     /// Its name.
     pub op: OpName,
-    /// What its collect returns.
+    /// The result of its collect.
     pub outcome: Outcome,
 }
 
@@ -27,11 +27,11 @@ pub struct EndedOperation {
 pub struct Operations {
     /// Those that were begun and have not ended.
     pub pending: PendingOps,
-    /// By slot: the slot's operation that ended and was not collected.
+    /// By slot: its operation that ended and was not collected.
     pub done: Vec<Option<EndedOperation>>,
     /// The slots that are free and not known to be worn. The last is drawn next.
     pub free: Vec<u32>,
-    /// Those of the pending operations that were not due.
+    /// The deadlines of those pending operations that were not due.
     pub deadlines: Deadlines,
 }
 
@@ -47,7 +47,7 @@ fn all_slots(alloc: Global, slots: u32) -> Result<Vec<u32>, NoMemory>
     Ok(free)
 }
 
-// A place for each slot, with nothing there.
+// A place for each slot, each empty.
 fn no_outcomes(alloc: Global, slots: u32) -> Result<Vec<Option<EndedOperation>>, NoMemory>
     ensures { IfOk result (λ v. v.items ≡ replicate slots None) }
 {
@@ -59,7 +59,7 @@ fn no_outcomes(alloc: Global, slots: u32) -> Result<Vec<Option<EndedOperation>>,
 }
 
 impl Operations {
-    /// No operation, and every slot below `slots` free.
+    /// No operation, with every slot below `slots` free.
     pub fn with_slots(alloc: Global, slots: u32) -> Result<Operations, NoMemory>
         requires { (0 < slots) × (slots ≤ 4096) }
         ensures holds { IfOk result (λ s. (t : Moment) → past t ≡ [] → t.z.slots ≡ slots → OperationsStand [] s t) }
@@ -97,7 +97,7 @@ impl Operations {
         }
     }
 
-    /// The operation has begun in the slot that was drawn.
+    /// Records that the operation has begun in the slot that was drawn.
     pub fn start(&mut self, op: OpName, ctx: Ctx, deadline: Option<Tick>)
         requires { MayStart op ctx deadline self.old }
         ensures started { StartsOp op ctx deadline self.old self.new }
@@ -109,7 +109,7 @@ impl Operations {
         }
     }
 
-    /// The pending operation has ended.
+    /// Records that the pending operation has ended.
     pub fn finish(&mut self, op: OpName, outcome: Outcome)
         requires { (t : Moment) × (s : Begun) × OperationsStand [] self.old t × Lawful t × (pending (past t) op ≡ Some s) }
         ensures finished { FinishesOp op outcome self.old self.new }

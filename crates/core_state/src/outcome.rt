@@ -1,4 +1,4 @@
-//! What an operation came to.
+//! The outcome of an operation.
 use sp_history::entry::Cause;
 use sp_msg::Message;
 
@@ -9,7 +9,7 @@ pub enum Outcome {
     Received(Message),
     /// A send's message was put on a pipe.
     Sent,
-    /// It ended without success, by this caller, or by the socket (0). A send has its message back.
+    /// It ended without success, by this caller, or by the socket (0). A send gets its message back.
     Gone {
         cause: Cause,
         by: u32,

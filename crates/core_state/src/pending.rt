@@ -1,8 +1,8 @@
 //! The operations that are pending: all of them in the order of their begins, and those of each context.
 //!
-//! Contexts are in buckets: a context's bucket is its number's remainder by the slots. Contexts
-//! are numbered one after the other, so two that are open share one only where as many contexts as slots were opened
-//! from the one to the other.
+//! Contexts are in buckets: a context's bucket is its number modulo the number of slots. Contexts are numbered one
+//! after another, so two that are open share a bucket only where their numbers differ by a multiple of the number of
+//! slots.
 ghost use Rattle.std.specs.Prelude.{◌≡◌, ◌<◌, ◌≤◌, ◌+◌, ◌==◌, ◌++◌, ◌∷◌, [], map, length, replicate, None, IfOk};
 ghost use Rattle.core_state.specs.declared.pending.PendingOperation.{PendingOperation as PendingOperationType};
 ghost use Rattle.core_state.specs.Pendings.{NotIn, Differ, IsAmong, FindsOn, slot_of, others_than, in_bucket, bucket_of, first_of, behind};
@@ -29,7 +29,7 @@ impl PendingOperation {
         self.op
     }
 
-    /// Whether it was begun on the context.
+    /// Returns whether it was begun on the context.
     pub fn is_on(&self, ctx: Ctx) -> bool
         ensures { result ≡ (self.now.ctx == ctx) }
     {
@@ -44,9 +44,9 @@ pub struct PendingOps {
     slots: u32,
     // By slot: its operation, where it is pending.
     places: Vec<Option<PendingOperation>>,
-    // All slots of pending operations, in the order of their begins, behind the place `slots`.
+    // All slots of pending operations, in the order of their begins, after the place `slots`.
     order: Rings,
-    // Those of each bucket, behind the place `slots` and its number.
+    // Those of each bucket, after the place `slots` plus the number of the bucket.
     buckets: Rings,
 }
 
@@ -60,7 +60,7 @@ impl Model for PendingOps {
     ghost invariant = { λ d. Keeps d.slots d.places.items d.order d.buckets (shown d.slots d.places.items d.order) };
 }
 
-// A place for each slot, with nothing there.
+// A place for each slot, each empty.
 fn no_places(alloc: Global, slots: u32) -> Result<Vec<Option<PendingOperation>>, NoMemory>
     ensures { IfOk result (λ v. v.items ≡ replicate slots None) }
 {
@@ -72,7 +72,7 @@ fn no_places(alloc: Global, slots: u32) -> Result<Vec<Option<PendingOperation>>,
 }
 
 impl PendingOps {
-    /// None is pending, of the slots below `slots`, which is 1 to 4,096.
+    /// No pending operation, of the slots below `slots`, which is 1 to 4,096.
     pub fn new(alloc: Global, slots: u32) -> Result<PendingOps, NoMemory>
         requires { (0 < slots) × (slots ≤ 4096) }
         ensures { IfOk result (λ d. d ≡ record { slots = slots; items = [] }) }
@@ -93,7 +93,7 @@ impl PendingOps {
         self.slots + ctx.0 % self.slots
     }
 
-    /// The operation has begun, in a slot that has none.
+    /// Adds an operation, in a slot that has none.
     pub fn add(&mut self, op: OpName, ctx: Ctx)
         requires slot { op.slot < self.old.slots }
         requires free { NotIn op.slot (map slot_of self.old.items) }
@@ -106,7 +106,7 @@ impl PendingOps {
         self.places[op.slot as usize] = Some(PendingOperation { op, ctx });
     }
 
-    /// The pending operation has ended.
+    /// Removes the pending operation, which has ended.
     pub fn take_out(&mut self, op: OpName)
         requires { (x : PendingOperationType) × IsAmong x self.old.items × (x.op ≡ op) }
         ensures { self.new ≡ record self.old { items = others_than op self.old.items } }
@@ -127,7 +127,7 @@ impl PendingOps {
         self.places[slot as usize]
     }
 
-    /// The first in the bucket of the context.
+    /// The first operation in the bucket of the context.
     pub fn first_in_bucket(&self, ctx: Ctx) -> Option<PendingOperation>
         ensures { result ≡ first_of (in_bucket self.now.slots (bucket_of self.now.slots ctx) self.now.items) }
     {
@@ -139,7 +139,7 @@ impl PendingOps {
         self.places[slot as usize]
     }
 
-    /// The next in the bucket of the pending operation.
+    /// The next operation in the bucket of the pending operation.
     pub fn next_in_bucket(&self, x: &PendingOperation) -> Option<PendingOperation>
         requires { IsAmong x.now self.now.items }
         ensures apart { Differ (map slot_of self.now.items) }
@@ -153,7 +153,7 @@ impl PendingOps {
         self.places[slot as usize]
     }
 
-    /// A pending operation of the context.
+    /// Returns a pending operation of the context.
     pub fn some_on(&self, ctx: Ctx) -> Option<OpName>
         ensures { FindsOn result ctx self.now.items }
     {

@@ -1,8 +1,8 @@
 //! The pipes with their wires: those that are up, and those that are down until their wires are taken.
 //!
-//! A pipe that comes up gets a place behind all others. One that goes down leaves its place empty, so that no other
-//! pipe moves. When a wire is taken while the pipes are fewer than half of the places, rounded down, the empty places
-//! are taken out. So over all pipes that go down, each costs a fixed number of moves and the search of its place.
+//! A pipe that comes up gets a place after all others. One that goes down leaves its place empty, so that no other pipe
+//! moves. When a wire is taken while the pipes are fewer than half of the places, rounded down, the empty places are
+//! removed. So over all pipes that go down, each costs a fixed number of moves and the search of its place.
 ghost use Rattle.std.specs.Prelude.{◌≡◌, ◌==◌, ◌<◌, ◌≤◌, ◌+◌, ◌++◌, ◌∷◌, ℕ, [], true, false, length, is_some, OnOk};
 ghost use Rattle.std.specs.VecDeque.{deque_capacity};
 ghost use Rattle.sp_history.specs.declared.entry.Entry.TheVariants.{Down};
@@ -19,12 +19,12 @@ use std::alloc::Global;
 use std::collections::VecDeque;
 use std::sync::Wait;
 
-/// A place, with the wire of the pipe that has it while that is up.
+/// A place, with the wire of its pipe while the pipe is up.
 #[derive(Drop)]
 pub struct PipePlace<W> {
     /// The number of the pipe.
     pub id: PipeId,
-    /// What its messages go over.
+    /// The wire that carries its messages.
     pub wire: Option<W>,
 }
 
@@ -44,13 +44,13 @@ pub struct DownPipe<W> {
 pub struct Pipes<W> {
     /// In the order in which pipes came up, which is that of their numbers.
     pub places: VecDeque<PipePlace<W>>,
-    /// How many pipes are up.
+    /// The number of pipes that are up.
     pub count: usize,
     /// In the order in which they went down, with room for all that are up. The first is taken first.
     pub down: VecDeque<DownPipe<W>>,
 }
 
-/// What asking a pipe for room came to.
+/// The result of asking a pipe for room.
 #[derive(Clone, Copy, PartialEq, Eq, Debug)]
 pub enum Asked {
     /// A message can be put now.
@@ -61,7 +61,7 @@ pub enum Asked {
     Down(Why),
 }
 
-/// What flushing a pipe came to.
+/// The result of flushing a pipe.
 #[derive(Clone, Copy, PartialEq, Eq, Debug)]
 pub enum Flushed {
     /// Nothing waits.
@@ -72,7 +72,7 @@ pub enum Flushed {
     Down(Why),
 }
 
-/// What pulling from a pipe came to.
+/// The result of pulling from a pipe.
 #[derive(Debug, Drop)]
 pub enum Pulled {
     /// The next message, with an empty header.
@@ -84,7 +84,7 @@ pub enum Pulled {
 }
 
 impl<W> PipePlace<W> {
-    // Whether the pipe of this number is up, with its wire here.
+    // Returns whether the pipe of this number is up, with its wire here.
     fn is_up_as(&self, p: PipeId) -> bool
         ensures number { result ≡ true → self.now.id ≡ p }
         ensures wire { result ≡ true → is_some self.now.wire ≡ true }
@@ -93,7 +93,7 @@ impl<W> PipePlace<W> {
         self.id.0 == p.0 && self.wire.is_some()
     }
 
-    // Whether a pipe with a number above this one is up, with its wire here.
+    // Returns whether a pipe with a number above this one is up, with its wire here.
     fn is_up_above(&self, p: PipeId) -> bool
         ensures wire { result ≡ true → is_some self.now.wire ≡ true }
         ensures above { result ≡ true → p < self.now.id }
@@ -102,7 +102,7 @@ impl<W> PipePlace<W> {
         p.0 < self.id.0 && self.wire.is_some()
     }
 
-    // Whether its number is below this one's.
+    // Returns whether its number is below this one's.
     fn is_before(&self, p: PipeId) -> bool
         ensures { result ≡ is_below p self.now }
     {
@@ -136,8 +136,8 @@ impl<W: Wire> Pipes<W> {
         Some(i)
     }
 
-    /// The first pipe that is up with a number above this one: its place and its number. The search begins behind
-    /// `from`, where that is the place of this number or of one below, and else at the front.
+    /// The first pipe that is up with a number above this one: its place and its number. The search begins after
+    /// `from`, if that is the place of this number or of a lower one, and otherwise at the front.
     pub fn next_above(&self, p: PipeId, from: usize) -> Option<(usize, PipeId)>
         ensures { FindsAbove W.shown result p self.now }
     {
@@ -163,7 +163,7 @@ impl<W: Wire> Pipes<W> {
         }
     }
 
-    /// The pipe at this place goes down; returns that it did, and why.
+    /// Takes the pipe at this place down. Returns that it is down, and why.
     pub fn take_down(&mut self, i: usize, why: Why) -> Asked
         requires there { HasPlace self.old i }
         requires room { length self.old.down.items < deque_capacity self.old.down }
@@ -180,7 +180,7 @@ impl<W: Wire> Pipes<W> {
         Asked::Down(why)
     }
 
-    /// Asks the pipe at this place for room. It goes down where its wire can't say.
+    /// Asks the pipe at this place for room. It goes down where its wire fails.
     pub fn ask<R: Wait>(&mut self, rt: &R, i: usize) -> Asked
         requires { (t : Moment) × (p : ℕ) × Lawful t × PipesStand W.shown self.old t × IsPipeAt self.old i p }
         ensures { WherePipe W.shown self.old i (λ t p. AskedAs W.shown result i p t self.new) }
@@ -208,7 +208,7 @@ impl<W: Wire> Pipes<W> {
         wire.put(rt, m);
     }
 
-    /// Writes what the pipe at this place can of what waits. It goes down where its wire can't.
+    /// Writes what the pipe at this place can of what waits. It goes down where its wire fails.
     pub fn flush<R: Wait>(&mut self, rt: &R, i: usize) -> Flushed
         requires { (t : Moment) × (p : ℕ) × Lawful t × PipesStand W.shown self.old t × IsPipeAt self.old i p }
         ensures { WherePipe W.shown self.old i (λ t p. FlushedTo W.shown result i p t self.new) }
@@ -234,7 +234,7 @@ impl<W: Wire> Pipes<W> {
         }
     }
 
-    /// How much the wires of all pipes have passed on, in a unit of their own; it wraps at its type's end.
+    /// How much the wires of all pipes have passed on, in a unit of their own. Wraps around.
     pub fn taken(&self) -> u64 {
         let mut sum: u64 = 0;
         for place in self.places.iter() {
@@ -245,7 +245,7 @@ impl<W: Wire> Pipes<W> {
         sum
     }
 
-    /// The pipe at this place goes down for the close.
+    /// Takes the pipe at this place down for the close.
     pub fn close_pipe(&mut self, i: usize)
         requires { (t : Moment) × (p : ℕ) × PipesStand W.shown self.old t × IsPipeAt self.old i p }
         ensures { WherePipe W.shown self.old i (λ t p. PipesStand W.shown self.new (also t (Down p whys.Closed))) }
@@ -253,7 +253,7 @@ impl<W: Wire> Pipes<W> {
         self.take_down(i, Why::Closed);
     }
 
-    /// Pulls from the pipe at this place. It goes down where its wire has ended or can't say.
+    /// Pulls from the pipe at this place. It goes down where its wire has ended or fails.
     pub fn pull<R: Wait>(&mut self, rt: &R, i: usize) -> Pulled
         requires { (t : Moment) × (p : ℕ) × Lawful t × PipesStand W.shown self.old t × IsPipeAt self.old i p }
         ensures { WherePipe W.shown self.old i (λ t p. PulledTo W.shown result i p t self.new) }
@@ -289,7 +289,7 @@ impl<W: Wire> Pipes<W> {
         Some(first)
     }
 
-    // Takes the empty places out, where the pipes are fewer than half of the places.
+    // Removes the empty places, where the pipes are fewer than half of the places.
     fn pack(&mut self)
         ensures up { up_pipes self.new ≡ up_pipes self.old }
         ensures in_order { (q : ℕ) → IsRising (numbers self.old.places.items ++ q ∷ []) → IsRising (numbers self.new.places.items ++ q ∷ []) }
@@ -314,7 +314,7 @@ impl<W: Wire> Pipes<W> {
         }
     }
 
-    /// Takes the room for one pipe more.
+    /// Makes room for one more pipe.
     pub fn make_room(&mut self) -> Result<(), NoMemory>
         ensures carries { (t : Moment) → PipesStand W.shown self.old t → PipesStand W.shown self.new t }
         ensures places { self.new.places.items ≡ self.old.places.items }
@@ -327,7 +327,7 @@ impl<W: Wire> Pipes<W> {
         Ok(())
     }
 
-    /// A pipe comes up, for which there is room.
+    /// Adds a pipe, for which there is room.
     pub fn add(&mut self, id: PipeId, wire: W)
         requires { HasRoom self.old }
         ensures { AddsPipe W.shown id wire self.old self.new }

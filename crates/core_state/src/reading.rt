@@ -16,7 +16,7 @@ use std::sync::Wait;
 use std::thread;
 
 impl OpWords {
-    // Reads the word by the caller's seat until it shows the operation, and returns whether that has ended. Where the
+    // Reads the word with the caller's seat until it shows the operation, and returns whether it has ended. Where the
     // core knows that it has, it reads until the word shows that.
     fn read_end<R: Wait>(&self, rt: &R, seat: &mut CallSeat, op: OpName, known: bool) -> bool
         requires own { seat.old.words ≡ self.now.words.id }
@@ -40,8 +40,8 @@ impl OpWords {
         unreachable!()
     }
 
-    /// Reads the operation's word by the caller's seat, and returns whether that shows its end. It does where the end
-    /// is recorded among these operations.
+    /// Reads the operation's word with the caller's seat, and returns whether the word shows its end. It does where the
+    /// end is recorded among these operations.
     pub fn reads_end<R: Wait>(
         &self,
         rt: &R,

@@ -5,7 +5,7 @@ ghost use Rattle.core_state.specs.Rings.{at, AreAlone, PutsLast, TakesOut};
 use sp_base::NoMemory;
 use std::alloc::Global;
 
-/// Places, each in a ring, which is a list that comes back to where it began.
+/// Places, each in a ring: a list whose last place leads to the first.
 #[derive(Drop)]
 pub struct Rings {
     /// By place: the next of its ring.
@@ -14,7 +14,7 @@ pub struct Rings {
     pub before: Vec<u32>,
 }
 
-// The numbers of so many places.
+// The numbers of the places below `places`.
 fn numbers(alloc: Global, places: u32) -> Result<Vec<u32>, NoMemory>
     ensures { IfOk result (λ v. AreAlone places v.items) }
 {
@@ -26,7 +26,7 @@ fn numbers(alloc: Global, places: u32) -> Result<Vec<u32>, NoMemory>
 }
 
 impl Rings {
-    /// So many places, each alone.
+    /// As many places as `places` says, each in a ring of its own.
     pub fn alone(alloc: Global, places: u32) -> Result<Rings, NoMemory>
         ensures { IfOk result (λ r. AreAlone places r.after.items × AreAlone places r.before.items) }
     {
@@ -36,7 +36,7 @@ impl Rings {
         })
     }
 
-    /// Puts the place before the head of a ring: it is the last behind that.
+    /// Puts the place into a ring before the head, as the last of the ring.
     pub fn put_last(&mut self, head: u32, place: u32)
         requires { (head < length self.old.before.items) × (place < length self.old.before.items) × (place < length self.old.after.items) × (at self.old.before.items head < length self.old.after.items) }
         ensures { PutsLast head place self.old self.new }

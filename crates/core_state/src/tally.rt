@@ -13,25 +13,25 @@ ghost use Rattle.core_state.specs.PartSteps.{CountsUp, CountsBegun, CountsWon, C
 use sp_base::Tick;
 use sp_history::entry::Totals;
 
-/// How many pipes came up, the totals, each of these up to 2^64 - 1, and the last tick (nng_stat(5)).
+/// The number of pipes that came up, the totals, each saturating, and the last tick (nng_stat(5)).
 #[derive(Clone, Copy, PartialEq, Eq, Debug)]
 pub struct Tally {
-    /// How many pipes came up.
+    /// The number of pipes that came up.
     pub ups: u32,
     /// The totals so far.
     pub totals: Totals,
-    /// Whether a frame, an Out, an end or a Down stands in the turn.
+    /// Whether the turn has a frame, an Out, an end or a Down.
     pub moved: bool,
-    /// The greatest tick, 0 before the first.
+    /// The largest tick, 0 before the first.
     pub latest: Tick,
-    /// How many contexts were opened, and how many are open, the socket's own among them.
+    /// The number of contexts that were opened, the socket's own among them.
     pub opened: u32,
-    /// How many contexts are open.
+    /// The number of contexts that are open.
     pub open_ctxs: u32,
 }
 
 impl Tally {
-    /// Nothing has happened.
+    /// The counts before anything happened.
     pub fn new() -> Tally
         ensures { (z : Setting) (caller : ℕ) → Tallies result (start z caller) }
     {
@@ -52,14 +52,14 @@ impl Tally {
         }
     }
 
-    /// A turn begins.
+    /// Records that a turn begins.
     pub fn turn(&mut self)
         ensures { (t : Moment) (caller : ℕ) → Tallies self.old t → Tallies self.new (next t caller) }
     {
         self.moved = false;
     }
 
-    /// A pipe comes up.
+    /// Counts a pipe that comes up.
     pub fn up(&mut self)
         requires { self.old.ups < 2 ^ 32 - 1 }
         ensures { CountsUp self.old self.new }
@@ -67,21 +67,21 @@ impl Tally {
         self.ups += 1;
     }
 
-    /// A pipe goes down.
+    /// Counts a pipe that goes down.
     pub fn down(&mut self)
         ensures { (t : Moment) (p : ℕ) (why : Why) → Tallies self.old t → Tallies self.new (also t (Down p why)) }
     {
         self.moved = true;
     }
 
-    /// An operation begins.
+    /// Counts an operation that begins.
     pub fn begun(&mut self)
         ensures { CountsBegun self.old self.new }
     {
         self.totals.begun = self.totals.begun.saturating_add(1);
     }
 
-    /// An operation is won.
+    /// Counts an operation that is won.
     pub fn won(&mut self)
         ensures { CountsWon self.old self.new }
     {
@@ -89,7 +89,7 @@ impl Tally {
         self.moved = true;
     }
 
-    /// An operation ends without success.
+    /// Counts an operation that ends without success.
     pub fn gone(&mut self)
         ensures { CountsGone self.old self.new }
     {
@@ -97,7 +97,7 @@ impl Tally {
         self.moved = true;
     }
 
-    /// A frame comes.
+    /// Counts a frame that comes.
     pub fn frame(&mut self)
         ensures { (t : Moment) (p : ℕ) (b : List ℕ) → Tallies self.old t → Tallies self.new (also t (Frame p b)) }
     {
@@ -105,7 +105,7 @@ impl Tally {
         self.moved = true;
     }
 
-    /// A message goes out.
+    /// Counts a message that goes out.
     pub fn out(&mut self)
         ensures { (t : Moment) (p : ℕ) (b : List ℕ) → Tallies self.old t → Tallies self.new (also t (Out p b)) }
     {
@@ -113,14 +113,14 @@ impl Tally {
         self.moved = true;
     }
 
-    /// A pipe is found full.
+    /// Counts a pipe that is found full.
     pub fn full(&mut self)
         ensures { (t : Moment) (p : ℕ) → Tallies self.old t → Tallies self.new (also t (Full p)) }
     {
         self.totals.fulls = self.totals.fulls.saturating_add(1);
     }
 
-    /// A context is opened.
+    /// Counts a context that is opened.
     pub fn open_ctx(&mut self)
         requires { (self.old.opened < 2 ^ 32 - 1) × (self.old.open_ctxs < 2 ^ 32 - 1) }
         ensures { (t : Moment) (c : ℕ) → Tallies self.old t → Tallies self.new (also t (entries.Ctx c gate.Open)) }
@@ -129,7 +129,7 @@ impl Tally {
         self.open_ctxs += 1;
     }
 
-    /// A context that is open is shut.
+    /// Counts a context that is shut.
     pub fn shut_ctx(&mut self)
         requires { 0 < self.old.open_ctxs }
         ensures { CountsShut self.old self.new }
@@ -137,7 +137,7 @@ impl Tally {
         self.open_ctxs -= 1;
     }
 
-    /// The moment `now`, or the last tick where that is later.
+    /// The later of `now` and the last tick.
     pub fn not_before(&self, now: Tick) -> Tick
         ensures { result ≡ max self.now.latest now }
     {
@@ -147,7 +147,7 @@ impl Tally {
         now
     }
 
-    /// The moment is this tick, which is no earlier than the last.
+    /// Records the tick `now`, which is no earlier than the last one.
     pub fn tick(&mut self, now: Tick)
         ensures { CountsTick now self.old self.new }
     {

@@ -24,7 +24,7 @@ impl<W> Model for WireList<W> {
 }
 
 impl<W> WireList<W> {
-    /// Takes the last pipe with its wire. `None` exactly where the list is empty.
+    /// Takes the last pipe with its wire. Returns `None` exactly where the list is empty.
     pub fn pop(&mut self) -> Option<(PipeId, W)>
         ensures none { IfNone result ((self.old ≡ []) × (self.new ≡ [])) }
         ensures last { IfSome result (λ taken. (why : WhyType) × (self.old ≡ self.new ++ record { id = taken.0; why = why; wire = taken.1 } ∷ [])) }
@@ -35,7 +35,7 @@ impl<W> WireList<W> {
         }
     }
 
-    /// Ends the empty list.
+    /// Drops the list, which is empty.
     pub fn destroy_empty(self)
         requires { self ≡ [] }
     {
@@ -44,7 +44,7 @@ impl<W> WireList<W> {
     }
 }
 
-// Ends the places, which are empty.
+// Drops the places, which are empty.
 fn end_places<W>(mut places: VecDeque<PipePlace<W>>)
     requires { held places.items ≡ [] }
 {

@@ -27,7 +27,7 @@ module _ {A : Type 0} where
   nil_or x [] ys e = cc
   nil_or x (z ∷ zs) ys e = cc
 
-  -- an element of two lists in a row stands in the first or in the second
+  -- an element of two appended lists is in the first or in the second
   pub stands_in : (xs ys prefix : List A) (t : A) (rest : List A) → xs ++ ys ≡ prefix ++ t ∷ rest
       → ((more : List A) × (xs ≡ prefix ++ t ∷ more)) ⊎ ((less : List A) × (prefix ≡ xs ++ less) × (ys ≡ less ++ t ∷ rest))
   stands_in [] ys prefix t rest e = inr (prefix, refl, e)
@@ -121,13 +121,13 @@ module _ {E L : Type 0} where
             (stands_in a.past rest prefix t after (sym whole ∙ is)),
       )
 
-  -- the history has as many turns of a new pass as it acted, and they return in order
+  -- the history has as many turns of a new pass as it took, and they return in order
   pub turns_made : (says : ℕ → List (Turn E) → Turn E → Type 0) (lock lock' : TableId) (first label : Option L) (k times : ℕ) (past : List (Turn E)) (p q : TurnPassView E L) → p ≡ new_pass lock first k → Acted says lock' p times q → FitsIn past label q
       → (length (turns_of k past) ≡ times) × ReturnsInOrder says k [] past
   turns_made says lock lock' first label k times past p q is acted fits = new_acted says lock lock' first label k times past q (subst (λ (z : TurnPassView E L). Acted says lock' z times q) is acted) fits
 
 module _ {E : Type 0} where
-  -- the same where what is returned speaks of the label
+  -- the same where the replies depend on the label
   pub replies_made : (replies : ℕ → ℕ → Option ℕ → List (Turn E) → Turn E → Type 0) (lock lock' : TableId) (first label : Option MachineLabel) (k times : ℕ) (past : List (Turn E)) (p q : TurnPassView E MachineLabel) → p ≡ new_pass lock first k → Acted (RepliesTo replies p.label) lock' p times q → FitsIn past label q
       → (length (turns_of k past) ≡ times) × ReturnsInOrder (RepliesTo replies first) k [] past
   replies_made replies lock lock' first label k times past p q is acted fits = new_acted (RepliesTo replies first) lock lock' first label k times past q (subst (λ (z : TurnPassView E MachineLabel). Acted (RepliesTo replies z.label) lock' z times q) is acted) fits

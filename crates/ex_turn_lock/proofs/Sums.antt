@@ -1,4 +1,4 @@
--- One turn more in a sum.
+-- One more turn in a sum.
 use Rattle.std.proofs.Common.{◌≡◌, ℕ, ◌+◌, ◌-◌, ◌≤◌, List, [], ◌∷◌, ◌++◌, arith}
 use Rattle.turn_lock.specs.declared.turn.Turn.{Turn}
 use Rattle.ex_turn_lock.specs.declared.counter.Added.{Added}

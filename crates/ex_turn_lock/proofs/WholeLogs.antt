@@ -29,7 +29,7 @@ module _ {A : Type 0} where
   take_more (suc n) [] w low = ap (λ (l : List A). w ∷ l) (take_none n)
   take_more (suc n) (x ∷ xs) w low = ap (λ (l : List A). x ∷ l) (take_more n xs w (omega arith))
 
--- one turn more
+-- one more turn
 counted-push : (before xs : List (Turn Written)) (t : Turn Written) → counted before (xs ++ t ∷ []) ≡ counted before xs ++ record { by = t.number; value = length (turns_of t.number (before ++ xs)) } ∷ []
 counted-push before [] t = ap (λ (l : List (Turn Written)). record { by = t.number; value = length (turns_of t.number l) } ∷ []) (sym (append-nil before))
 counted-push before (x ∷ xs) t = let here : Write = record { by = x.number; value = length (turns_of x.number before) } in
@@ -65,7 +65,7 @@ log_of setting label past is all = follow setting.room past [] past refl
     some_same : (a b : MachineLabel) → Some a ≡ Some b → a ≡ b
     some_same a b e = ap (or_else a) e
 
--- what three callers that acted wrote
+-- the log of three callers that acted
 pub whole_log : (lock lock' : TableId) (z : MachineLabel) (label : Option MachineLabel) (times : ℕ) (past : List (Turn Written)) (log : List Write) (p q p' q' p'' q'' : TurnPassView Written MachineLabel) → log ≡ writes_of past → IsByCallers 3 past
     → p ≡ new_pass lock (Some z) 1 → Acted (RepliesTo Replies p.label) lock' p times q → FitsIn past label q
     → p' ≡ new_pass lock (Some z) 2 → Acted (RepliesTo Replies p'.label) lock' p' times q' → FitsIn past label q'
@@ -90,7 +90,7 @@ added past prefix (t ∷ ts) is all so_far = let more = all prefix t ts is in le
 pub count_of : (past : List (Turn Added)) → AllReturn (λ _. Adds 1) past → total past ≡ min (length past) (2 ^ 64 - 1)
 count_of past all = added past [] past refl all refl
 
--- what two callers that acted added
+-- the count of two callers that acted
 pub whole_count : {L : Type 0} (lock lock' : TableId) (z label : Option L) (times : ℕ) (past : List (Turn Added)) (p q p' q' : TurnPassView Added L) → IsByCallers 2 past
     → p ≡ new_pass lock z 1 → Acted (λ _. Adds 1) lock' p times q → FitsIn past label q
     → p' ≡ new_pass lock z 2 → Acted (λ _. Adds 1) lock' p' times q' → FitsIn past label q' → IsByTwo times past × (total past ≡ min (length past) (2 ^ 64 - 1))

@@ -1,4 +1,4 @@
--- One turn more in a log of writes.
+-- One more turn in a log of writes.
 use Rattle.std.proofs.Common.{◌≡◌, ℕ, List, [], ◌∷◌, ◌++◌, refl, ap, ◌∙◌, sym, append_assoc, append-nil}
 use Rattle.std.specs.Prelude.{map}
 use Rattle.turn_lock.specs.declared.turn.Turn.{Turn}

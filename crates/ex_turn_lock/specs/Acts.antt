@@ -11,12 +11,13 @@ module _ {E : Type 0} where
   abbrev pub RepliesTo : (ℕ → ℕ → Option ℕ → List (Turn E) → Turn E → Type 0) → Option MachineLabel → ℕ → List (Turn E) → Turn E → Type 0
   RepliesTo replies label value past t = (z : MachineLabel) × (label ≡ Some z) × (reply : Option ℕ) × replies z.room value reply past t
 
-  -- each turn of this number in the part of the history behind `before` returns what follows from all that stood before it, the first to the value 0, the next to 1, and so on
+  -- each turn of this number in the part of the history after `before` returns what follows from the history before it,
+  -- the first for the value 0, the next for 1, and so on
   abbrev pub ReturnsInOrder : (ℕ → List (Turn E) → Turn E → Type 0) → ℕ → List (Turn E) → List (Turn E) → Type 0
   ReturnsInOrder says n before past = (prefix : List (Turn E)) (t : Turn E) (rest : List (Turn E)) → past ≡ prefix ++ t ∷ rest → t.number ≡ n → says (length (turns_of n prefix)) (before ++ prefix) t
 
   module _ {L : Type 0} where
-    -- the caller has taken so many turns, one for each value from 0 on, and is ready again
+    -- the caller has taken `count` turns, one for each value from 0 on, and is ready again
     pub record Acted (says : ℕ → List (Turn E) → Turn E → Type 0) (lock : TableId) (before : TurnPassView E L) (count : ℕ) (after : TurnPassView E L) : Type 0 where
       pub ready : IsReady lock after
       pub same : IsSameCaller before after

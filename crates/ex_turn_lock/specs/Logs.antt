@@ -1,4 +1,4 @@
--- What a register has written, and what its history says of it.
+-- What a register has written, and what its history says about it.
 use Rattle.std.specs.Prelude.{◌≡◌, ◌<◌, ◌++◌, ℕ, List, [], ◌∷◌, map, length, take, Option, MatchOption}
 use Rattle.turn_lock.specs.declared.turn.Turn.{Turn}
 use Rattle.turn_lock.specs.History.{turns_of, IsByCallers}
@@ -26,7 +26,8 @@ abbrev pub counted : List (Turn Written) → List (Turn Written) → List Write
 counted before [] = []
 counted before (t ∷ ts) = record { by = t.number; value = length (turns_of t.number before) } ∷ counted (before ++ t ∷ []) ts
 
--- three callers have so many turns each, in some order, and no one else has any; the log is what they write in that order, as far as the room goes
+-- three callers have `times` turns each, in some order, and no other caller has any; the log is what they write in that
+-- order, as far as the room goes
 pub record IsLogOfThree (times room : ℕ) (log : List Write) : Type 0 where
   pub past : List (Turn Written)
   pub log_is : log ≡ take room (counted [] past)

@@ -8,11 +8,11 @@ abbrev pub total : List (Turn Added) → ℕ
 total [] = 0
 total (t ∷ ts) = sum_by (λ (a : Added). a.0) t.entries + total ts
 
--- the turn adds so much, as far as the greatest count
+-- the turn adds `n`, up to the greatest count
 abbrev pub Adds : ℕ → List (Turn Added) → Turn Added → Type 0
 Adds n past t = total (past ++ t ∷ []) ≡ min (total past + n) (2 ^ 64 - 1)
 
--- two callers have so many turns each, and no one else has any
+-- two callers have `times` turns each, and no other caller has any
 pub record IsByTwo (times : ℕ) (past : List (Turn Added)) : Type 0 where
   pub callers : IsByCallers 2 past
   pub first : length (turns_of 1 past) ≡ times

@@ -12,16 +12,16 @@ use std::sync::Wait;
 use std::thread::{Threads, join};
 use turn_lock::{Stands, TurnLock, TurnPass};
 
-/// What one call does, with one owner.
+/// A machine that one call at a time acts on.
 pub trait Machine {
     ghost use Rattle.std.specs.Prelude.{◌≡◌, ℕ, List, Option};
     ghost use Rattle.turn_lock.specs.declared.turn.Turn.{Turn};
     ghost use Rattle.turn_lock.specs.Turning.{TakesTurn};
 
-    /// What a turn of the machine is a list of.
+    /// The elements of a turn of the machine.
     type Entry;
 
-    // For which histories the machine stands, oldest turn first.
+    // The histories that the machine may have, oldest turn first.
     ghost stands: { Self → List (Turn Self.Entry) → Type 0 };
 
     // What no call changes.
@@ -30,17 +30,17 @@ pub trait Machine {
     // Of the room, the value, the result, the history before and the turn.
     ghost replies: { ℕ → ℕ → Option ℕ → List (Turn Self.Entry) → Turn Self.Entry → Type 0 };
 
-    /// One turn of the caller's. It may be one with no entries.
+    /// Takes one turn of the caller's. It may have no entries.
     fn act(&mut self, caller: u32, value: u64) -> Option<u64>
         ensures turn { TakesTurn stands self.old self.new caller (replies (room self.old) value result) }
         ensures room { room self.new ≡ room self.old };
 }
 
-/// A machine, and the seat of a table whose name all passes know by their label. It must be spent.
+/// A machine, and a seat of the table whose name is in the label of all passes. It must be spent.
 pub struct CoreState<M: Machine> {
     /// What the calls act on.
     pub machine: M,
-    /// A seat of the table whose name the label has.
+    /// A seat of the table that the label names.
     pub words: Seat<u8, ()>,
 }
 
@@ -54,8 +54,8 @@ impl<M: Machine> Stands for CoreState<M> {
     ghost label = { λ c. record { room = M.room c.machine; words = c.words.table_id } };
 }
 
-/// Takes one turn. What was seen grows by turns of others and by one turn of the caller's own, and the result is one
-/// over these.
+/// Takes one turn. What was seen grows by turns of others and by one turn of the caller's own, and the result is over
+/// these.
 pub fn act<M: Machine, R: Wait>(
     rt: &R,
     lock: &TurnLock<CoreState<M>>,
@@ -91,7 +91,7 @@ fn act_times<M: Machine, R: Wait>(
     pass
 }
 
-/// Two callers act in threads of their own, each so many times, with the values 0, 1, 2 and so on.
+/// Has two callers act in threads of their own, each `times` times, with the values 0, 1, 2 and so on.
 pub fn act_both<M: Machine + Send, R: Threads + Wait + Sync>(
     rt: &R,
     lock: &TurnLock<CoreState<M>>,
@@ -117,7 +117,7 @@ pub fn act_both<M: Machine + Send, R: Threads + Wait + Sync>(
     )
 }
 
-/// The same with three callers.
+/// Does the same with three callers.
 pub fn act_all<M: Machine + Send, R: Threads + Wait + Sync>(
     rt: &R,
     lock: &TurnLock<CoreState<M>>,

@@ -13,7 +13,7 @@ use std::sync::Wait;
 use std::thread::{Threads, join};
 use turn_lock::{Stands, TurnLock, TurnPass};
 
-/// What a turn added to the count.
+/// The number that a turn added to the count.
 pub struct Added(pub u64);
 
 /// A count of all that was added. It must be spent.
@@ -33,7 +33,7 @@ impl Stands for Counter {
 }
 
 impl Counter {
-    /// Takes the counter apart, which spends it, and gives its count.
+    /// Takes the counter apart, and returns its count.
     pub fn into_count(self) -> u64
         ensures { result ≡ self.count }
     {
@@ -42,7 +42,7 @@ impl Counter {
     }
 }
 
-/// Adds, up to the greatest count, and gives the count.
+/// Adds, up to the greatest count, and returns the count.
 pub fn add<R: Wait>(rt: &R, lock: &TurnLock<Counter>, pass: &mut TurnPass<Counter>, n: u64) -> u64
     requires lock { IsOf lock.now pass.old }
     requires outside { pass.old.inside ≡ false }
@@ -59,7 +59,7 @@ pub fn add<R: Wait>(rt: &R, lock: &TurnLock<Counter>, pass: &mut TurnPass<Counte
     count
 }
 
-// Adds 1 so many times.
+// Adds 1 `times` times.
 fn add_times<R: Wait>(
     rt: &R,
     lock: &TurnLock<Counter>,
@@ -75,8 +75,8 @@ fn add_times<R: Wait>(
     pass
 }
 
-/// Two threads add 1 in turns, each so many times. It gives the count, up to the greatest, and a pass that has seen
-/// the whole history. `None` is for out of memory.
+/// Has two threads add 1 in turns, each `times` times. Returns the count, up to the greatest, and a pass that has seen
+/// the whole history, or `None` where memory ran out.
 pub fn count_in_turns<R: Threads + Wait + Sync>(
     rt: &R,
     alloc: Global,

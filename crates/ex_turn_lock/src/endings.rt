@@ -1,4 +1,4 @@
-//! The end of a lock, and what it says of each caller.
+//! The end of a lock, and what it proves about each caller.
 ghost use Rattle.std.specs.Prelude.{◌≡◌, ◌+◌, Some, All, length};
 ghost use Rattle.turn_lock.specs.History.{IsByCallers};
 ghost use Rattle.turn_lock.specs.Passes.{IsReady, FitsIn};
@@ -6,8 +6,8 @@ ghost use Rattle.turn_lock.specs.Passes.{IsReady, FitsIn};
 use std::sync::Wait;
 use turn_lock::{PassList, Stands, TurnLock, TurnPass};
 
-/// Gives the two passes that were out, and ends the lock. What each pass had seen is a prefix of the whole
-/// history, and its own turns are exactly those of its number.
+/// Takes back the two lent passes, and ends the lock. What each pass had seen is a prefix of the whole history, and its
+/// own turns are exactly those of its number.
 pub fn end_with_two<S: Stands, R: Wait>(
     rt: &R,
     lock: TurnLock<S>,
@@ -30,7 +30,7 @@ pub fn end_with_two<S: Stands, R: Wait>(
     lock.end(rt, list)
 }
 
-/// The same with three passes.
+/// Does the same with three passes.
 pub fn end_with_three<S: Stands, R: Wait>(
     rt: &R,
     lock: TurnLock<S>,

@@ -1,9 +1,9 @@
 //! Two ways to use a turn lock.
 //!
-//! `counter` has a state whose calls know the turn that they add, and leave by `leave`. `core_state` has a state that
-//! is generic in its machine, whose contract says only that there is such a turn. Its calls leave by `leave_some`,
-//! and ensure one turn of the caller's own and a result over the history before it. `register` is such a machine,
-//! with its history at hand. `endings` says what the end tells of each caller.
+//! `counter` has a state whose calls know the turn that they add, and end with `leave`. `core_state` has a state that
+//! is generic in its machine, whose contract says only that there is such a turn. Its calls end with `leave_some`, and
+//! ensure one turn of the caller's own and a result over the history before it. `register` is such a machine, and keeps
+//! its history. `endings` says what the end proves about each caller.
 #![tactic(auto)]
 
 mod core_state;

@@ -13,7 +13,7 @@ use std::sync::Wait;
 use std::thread::Threads;
 use turn_lock::TurnLock;
 
-// The table whose name stands in the label has no rule.
+// The table that the label names has no rule.
 struct NoRule;
 
 impl TableRule<u8, (), ()> for NoRule {
@@ -32,7 +32,7 @@ impl CoreState<Register> {
     }
 }
 
-// Ends with all that three callers wrote.
+// Takes the turns of three callers, and returns all that they wrote.
 fn take_turns<R: Threads + Wait + Sync>(
     rt: &R,
     alloc: Global,
@@ -63,7 +63,7 @@ fn take_turns<R: Threads + Wait + Sync>(
     Ok(core.into_log())
 }
 
-/// Three callers write 0, 1, 2 and so on, each so many times, into a register with room for so many writes. It gives
+/// Has three callers write 0, 1, 2 and so on, each `times` times, into a register with room for `room` writes. Returns
 /// all that was written, in order.
 pub fn write_in_turns<R: Threads + Wait + Sync>(
     rt: &R,

@@ -13,14 +13,14 @@ use std::mem;
 
 /// A value, and all writes up to it. It must be spent.
 pub struct Register {
-    /// What was written last, or 0 where nothing was.
+    /// The value that was written last, or 0 where none was.
     pub value: u64,
     /// All that was written, in order. Its capacity is the register's room.
     pub log: Vec<Write>,
 }
 
 impl Register {
-    /// A register with the value 0, and room for so many writes.
+    /// A register with the value 0 and room for `room` writes.
     pub fn new(alloc: Global, room: usize) -> Result<Register, AllocError>
         ensures { IfOk result (λ r. (r.value ≡ 0) × (r.log.items ≡ []) × (vec_capacity r.log ≡ room)) }
     {
@@ -30,7 +30,7 @@ impl Register {
         })
     }
 
-    /// Takes the register apart, which spends it, and gives all that was written, in order.
+    /// Takes the register apart, and returns all that was written, in order.
     pub fn into_log(self) -> Vec<Write>
         ensures { result ≡ self.log }
     {

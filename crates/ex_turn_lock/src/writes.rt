@@ -1,6 +1,6 @@
 //! What is written into a register.
 
-/// What a turn added: that this value was written.
+/// The element of a turn: that this value was written.
 pub struct Written(pub u64);
 
 /// Which caller wrote which value.

@@ -1,4 +1,4 @@
--- What a verdict says.
+-- The meaning of a verdict.
 use Rattle.std.specs.Prelude.{ℕ, List, [], ◌∷◌, Option, Some, None}
 use Rattle.turn_lock.specs.declared.turn.Turn.{Turn}
 use Rattle.sp_history.specs.declared.entry.Entry.{Entry}
@@ -10,17 +10,17 @@ use Rattle.history_judge_rules.specs.declared.faults.Fault.{Fault}
 use Rattle.history_judge.specs.declared.judgement.Judgement.{Judgement}
 use Rattle.history_judge.specs.declared.judgement.Judgement.TheVariants.{Right, Illegal, Unsettled}
 
--- what the verdict says, where these are the facts that the history is legal and that it is settled
+-- the meaning of the verdict, where these are the facts that the history is legal and that it is settled
 abbrev pub JudgesAs : Judgement → Type 0 → Type 0 → Type 0
 JudgesAs Right L S = L × S
 JudgesAs (Illegal f) L S = L → ⊥
 JudgesAs (Unsettled f) L S = L × (S → ⊥)
 
--- of a history that goes on from this past
+-- for a history that continues this past
 abbrev pub JudgesFrom : Judgement → Setting → List Entry → List (Turn Entry) → Type 0
 JudgesFrom v z past turns = JudgesAs v (LegalFrom z past turns) (SettledFrom z past turns)
 
--- what the verdict says of a history
+-- the meaning of the verdict on a history
 abbrev pub Judges : Judgement → Setting → List (Turn Entry) → Type 0
 Judges v z history = JudgesFrom v z [] history
 

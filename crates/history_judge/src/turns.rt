@@ -336,7 +336,7 @@ fn may_be_dry(alloc: Global, z: Setting, past: &Past, c: Ctx) -> Result<Option<F
     }
 }
 
-/// What is wrong with the entry itself.
+/// The fault of the entry itself, if there is one.
 fn may_come(
     alloc: Global,
     z: Setting,
@@ -372,7 +372,7 @@ fn may_come(
     }
 }
 
-/// What is wrong with the entry here.
+/// The fault of the entry here, if there is one.
 fn allowed(
     alloc: Global,
     z: Setting,
@@ -554,7 +554,7 @@ fn with_full(e: &Entry, fulls: LinkedList<PipeId>) -> Result<LinkedList<PipeId>,
     }
 }
 
-/// A past to which the entries of a turn were added, the pipes that were found full in it, and what is wrong with it.
+/// A past to which the entries of a turn were added, the pipes that were found full in it, and the fault of it.
 #[derive(Drop)]
 struct Followed {
     past: Past,
@@ -605,7 +605,7 @@ fn starts_well(z: Setting, entries: &LinkedList<Entry>) -> bool
     }
 }
 
-/// What is wrong with the number of a turn and with its first entry.
+/// The fault of the number of a turn and of its first entry, if there is one.
 fn start_fault(z: Setting, k: u32, entries: &LinkedList<Entry>) -> Option<Fault>
     ensures { Finds result ((1 ≤ k) × (k ≤ z.callers) × IsTrue (starts_well z entries.now)) }
 {
@@ -619,7 +619,7 @@ fn start_fault(z: Setting, k: u32, entries: &LinkedList<Entry>) -> Option<Fault>
     }
 }
 
-/// A past to which a turn was added, what is wrong with the turn, and what it leaves undone.
+/// A past to which a turn was added, the fault of the turn, and what it leaves undone.
 #[derive(Drop)]
 struct Judged {
     past: Past,
@@ -685,7 +685,7 @@ fn judge_from(
     }
 }
 
-/// Whether the history is legal and settled for the setting, and if not, the first thing that is wrong with it.
+/// Returns whether the history is legal and settled for the setting, and if not, the first thing that is wrong with it.
 pub fn judge(
     alloc: Global,
     z: Setting,

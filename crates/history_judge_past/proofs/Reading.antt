@@ -7,7 +7,7 @@ use Rattle.sp_history.specs.declared.parts.Back.{Back}
 use Rattle.sp_history.specs.declared.parts.Back.TheVariants.{Found}
 use Rattle.sp_history.specs.Backtrace.{back, behind}
 
--- the whole of what follows the first 4
+-- all of what follows the first 4 bytes
 rest_of : (b : List ℕ) → take (length b - 4) (drop 4 b) ≡ drop 4 b
 rest_of b = take_all (length b - 4) (drop 4 b) (omega (arith, length-drop 4 b))
 

@@ -15,14 +15,14 @@ pub enum Past {
     After(Entry, Box<Past>),
 }
 
-/// The same bytes, in memory of their own.
+/// A copy of the bytes, in memory of its own.
 pub fn copy_bytes(alloc: Global, b: &Bytes) -> Result<Bytes, NoMemory>
     ensures { IfOk result (λ copy. copy ≡ b.now) }
 {
     Bytes::from_slice(alloc, b.as_slice())
 }
 
-/// The same message, in memory of its own.
+/// A copy of the message, in memory of its own.
 pub fn copy_message(alloc: Global, m: &RecordedMessage) -> Result<RecordedMessage, NoMemory>
     ensures { IfOk result (λ copy. copy ≡ m.now) }
 {
@@ -31,7 +31,7 @@ pub fn copy_message(alloc: Global, m: &RecordedMessage) -> Result<RecordedMessag
     Ok(RecordedMessage { header, body })
 }
 
-/// The same act, in memory of its own.
+/// A copy of the act, in memory of its own.
 pub fn copy_act(alloc: Global, act: &RecordedAct) -> Result<RecordedAct, NoMemory>
     ensures { IfOk result (λ copy. copy ≡ act.now) }
 {
@@ -41,7 +41,7 @@ pub fn copy_act(alloc: Global, act: &RecordedAct) -> Result<RecordedAct, NoMemor
     }
 }
 
-/// The same outcome, in memory of its own.
+/// A copy of the outcome, in memory of its own.
 pub fn copy_outcome(alloc: Global, r: &Completion) -> Result<Completion, NoMemory>
     ensures { IfOk result (λ copy. copy ≡ r.now) }
 {
@@ -51,7 +51,7 @@ pub fn copy_outcome(alloc: Global, r: &Completion) -> Result<Completion, NoMemor
     }
 }
 
-/// The same ending, in memory of its own.
+/// A copy of the ending, in memory of its own.
 pub fn copy_ending(alloc: Global, ending: &Ending) -> Result<Ending, NoMemory>
     ensures { IfOk result (λ copy. copy ≡ ending.now) }
 {

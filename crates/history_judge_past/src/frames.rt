@@ -1,4 +1,4 @@
-//! What a role does, and what one frame is to it.
+//! What a role does, and what one frame means to it.
 
 ghost use Rattle.std.specs.Prelude.{◌≡◌, IfOk, [], take, drop};
 ghost use Rattle.sp_history.specs.Backtrace.{back, behind, is_short};
@@ -16,77 +16,77 @@ use std::alloc::Global;
 
 // ---- Roles
 
-/// A send goes to every target, in the turn of its begin.
+/// Returns whether a send goes to every target, in the turn of its begin.
 pub fn floods(role: Role) -> bool
     ensures { result ≡ floods role }
 {
     matches!(role, Role::Pub | Role::Surveyor | Role::Bus)
 }
 
-/// The role is sub.
+/// Returns whether the role is sub.
 pub fn is_sub(role: Role) -> bool
     ensures { result ≡ is_sub role }
 {
     matches!(role, Role::Sub)
 }
 
-/// The role is req.
+/// Returns whether the role is req.
 pub fn is_req(role: Role) -> bool
     ensures { result ≡ is_req role }
 {
     matches!(role, Role::Req)
 }
 
-/// A send answers what the last receive gave.
+/// Returns whether a send answers what the last receive gave.
 pub fn is_reply(role: Role) -> bool
     ensures { result ≡ is_reply role }
 {
     matches!(role, Role::Rep | Role::Respondent)
 }
 
-/// The role is pair.
+/// Returns whether the role is pair.
 pub fn is_pair(role: Role) -> bool
     ensures { result ≡ is_pair role }
 {
     matches!(role, Role::Pair0)
 }
 
-/// A send asks for replies.
+/// Returns whether a send asks for replies.
 pub fn is_asker(role: Role) -> bool
     ensures { result ≡ is_asker role }
 {
     matches!(role, Role::Req | Role::Surveyor)
 }
 
-/// Contexts can be opened.
+/// Returns whether contexts can be opened.
 pub fn has_contexts(z: Setting) -> bool
     ensures { result ≡ has_contexts z }
 {
     z.role.contexts() && !z.raw
 }
 
-/// A cooked sub.
+/// Returns whether it is a cooked sub.
 pub fn has_topics(z: Setting) -> bool
     ensures { result ≡ has_topics z }
 {
     is_sub(z.role) && !z.raw
 }
 
-/// A cooked req or surveyor.
+/// Returns whether it is a cooked req or surveyor.
 pub fn has_requests(z: Setting) -> bool
     ensures { result ≡ has_requests z }
 {
     is_asker(z.role) && !z.raw
 }
 
-/// A cooked req, which sends again.
+/// Returns whether it is a cooked req, which sends again.
 pub fn resends(z: Setting) -> bool
     ensures { result ≡ resends z }
 {
     is_req(z.role) && !z.raw
 }
 
-/// A cooked rep or respondent.
+/// Returns whether it is a cooked rep or respondent.
 pub fn has_stored(z: Setting) -> bool
     ensures { result ≡ has_stored z }
 {
@@ -142,7 +142,7 @@ fn is_short(found: &Back) -> bool
     matches!(found, Back::Short)
 }
 
-/// A frame of the pipe that comes after this past is no message of the protocol.
+/// Returns whether a frame of the pipe that comes after this past is not a message of the protocol.
 pub fn malformed(
     alloc: Global,
     z: Setting,
@@ -192,7 +192,7 @@ fn item(
     })
 }
 
-/// What a cooked receive will give: the body alone.
+/// The item that a cooked receive will give: only the body.
 pub fn plain_item(alloc: Global, p: PipeId, b: &[u8]) -> Result<Item, NoMemory>
     ensures { IfOk result (λ i. i ≡ plain_item p b.now) }
 {
@@ -226,7 +226,7 @@ fn worded_item(alloc: Global, p: PipeId, b: &[u8]) -> Result<Item, NoMemory>
     item(alloc, p, &[], &b[..4], &b[4..])
 }
 
-/// What a frame of the pipe is kept as, if at all.
+/// The item that a frame of the pipe is kept as, if it is kept.
 pub fn item_of(alloc: Global, z: Setting, p: PipeId, b: &[u8]) -> Result<Option<Item>, NoMemory>
     ensures { IfOk result (λ i. i ≡ item_of z p b.now) }
 {

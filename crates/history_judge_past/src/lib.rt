@@ -1,8 +1,8 @@
-//! What a past holds of pipes, contexts, topics and operations, and what a frame says, computed by a plain program.
+//! What a past says about pipes, contexts, topics and operations, and what a frame says, computed by a plain program.
 //!
-//! It goes by the definitions of `sp_history` word by word, and so is slow: each notion is computed anew from the past.
-//! Its contract is the definition. `history_judge_requests` goes on from here, `history_judge` reads whole histories by
-//! both.
+//! It follows the definitions of `sp_history` literally, and so is slow: each notion is computed again from the past.
+//! Its contract is the definition. `history_judge_requests` continues from here; `history_judge` reads whole histories
+//! with both.
 #![tactic(auto)]
 
 pub mod entries;

@@ -1,4 +1,4 @@
-//! Small words on lists.
+//! Functions on lists.
 
 ghost use Rattle.std.specs.Prelude.{◌≡◌, IfOk, length, filter, find, not};
 ghost use Rattle.sp_history.specs.Lists.{has, without, all_in, same_bytes, same_op, is_nil, matches, word, first_word, is_number};
@@ -8,35 +8,35 @@ use sp_base::{Ctx, NoMemory, OpName, PipeId};
 use sp_history::parts::Begun;
 use std::collections::LinkedList;
 
-/// The pipe stands in the list.
+/// Returns whether the pipe is in the list.
 pub fn has_pipe(pipes: &LinkedList<PipeId>, p: PipeId) -> bool
     ensures { result ≡ has pipes.now p }
 {
     pipes.iter().any(|q| q.0 == p.0)
 }
 
-/// The context stands in the list.
+/// Returns whether the context is in the list.
 pub fn has_ctx(contexts: &LinkedList<Ctx>, c: Ctx) -> bool
     ensures { result ≡ has contexts.now c }
 {
     contexts.iter().any(|d| d.0 == c.0)
 }
 
-/// Each pipe of the first list stands in the whole.
+/// Returns whether each pipe of the first list is in the whole.
 pub fn all_in(pipes: &LinkedList<PipeId>, whole: &LinkedList<PipeId>) -> bool
     ensures { result ≡ all_in pipes.now whole.now }
 {
     pipes.iter().all(|p| has_pipe(whole, *p))
 }
 
-/// Nothing stands in the list.
+/// Returns whether the list is empty.
 pub fn is_empty<T>(xs: &LinkedList<T>) -> bool
     ensures { result ≡ is_nil xs.now }
 {
     xs.is_empty()
 }
 
-/// The bytes are the same, and as many.
+/// Returns whether the bytes are the same.
 pub fn same_bytes(a: &[u8], b: &[u8]) -> bool
     ensures { result ≡ same_bytes a.now b.now }
 {
@@ -47,21 +47,21 @@ pub fn same_bytes(a: &[u8], b: &[u8]) -> bool
     }
 }
 
-/// The same slot and generation.
+/// Returns whether slot and generation are the same.
 pub fn same_op(a: OpName, b: OpName) -> bool
     ensures { result ≡ same_op a b }
 {
     a.slot == b.slot && a.generation == b.generation
 }
 
-/// The operation has this name.
+/// Returns whether the operation has this name.
 pub fn is_of(op: OpName, s: &Begun) -> bool
     ensures { result ≡ is_of op s.now }
 {
     same_op(s.op, op)
 }
 
-/// The topic is a prefix of the body.
+/// Returns whether the topic is a prefix of the body.
 pub fn matches(body: &[u8], topic: &[u8]) -> bool
     ensures { result ≡ matches body.now topic.now }
 {
@@ -75,7 +75,7 @@ pub fn word(n: u32) -> [u8; 4]
     n.to_be_bytes()
 }
 
-/// The number of the first 4 bytes, if there are so many.
+/// The number in the first 4 bytes, if there are 4.
 pub fn first_word(b: &[u8]) -> Option<u32>
     ensures { result ≡ first_word b.now }
 {
@@ -85,7 +85,7 @@ pub fn first_word(b: &[u8]) -> Option<u32>
     Some(u32::from_be_bytes([b[0], b[1], b[2], b[3]]))
 }
 
-/// It is there, and this number.
+/// Returns whether it is there, and is this number.
 pub fn is_number(found: Option<u32>, n: u32) -> bool
     ensures { result ≡ is_number found n }
 {
@@ -129,7 +129,7 @@ pub fn without_ctx(contexts: LinkedList<Ctx>, c: Ctx) -> Result<LinkedList<Ctx>,
     }
 }
 
-/// All operations but this one.
+/// All operations except this one.
 pub fn without_begun(ss: LinkedList<Begun>, op: OpName) -> Result<LinkedList<Begun>, NoMemory>
     ensures { IfOk result (λ kept. kept ≡ without_begun ss op) }
 {
@@ -146,7 +146,7 @@ pub fn without_begun(ss: LinkedList<Begun>, op: OpName) -> Result<LinkedList<Beg
     }
 }
 
-/// The first with this name.
+/// The first operation with this name.
 pub fn find_begun(ss: LinkedList<Begun>, op: OpName) -> Option<Begun>
     ensures { result ≡ find (is_of op) ss }
 {

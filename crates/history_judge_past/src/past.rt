@@ -1,4 +1,4 @@
-//! What stands in a past.
+//! What a past contains.
 
 ghost use Rattle.std.specs.Prelude.{◌≡◌, IfOk, filter, map, not, ◌+◌, ◌++◌, [], ◌∷◌};
 ghost use Rattle.sp_history.specs.Lists.{same_op, same_bytes};
@@ -13,7 +13,7 @@ use sp_history::parts::{Begun, OperationEnd, Timer};
 use std::alloc::Global;
 use std::collections::LinkedList;
 
-/// One more. A count beyond its type is of a history that no memory holds.
+/// The number plus one. A count beyond its type belongs to a history that doesn't fit into memory.
 pub fn one_more(n: u64) -> Result<u64, NoMemory>
     ensures { IfOk result (λ m. m ≡ n + 1) }
 {
@@ -42,7 +42,7 @@ pub fn up(alloc: Global, past: &Past) -> Result<LinkedList<PipeId>, NoMemory>
     }
 }
 
-/// How many pipes came up. Past 2^64 - 1 a count returns `NoMemory`.
+/// The number of pipes that came up. A count above 2^64 - 1 returns `NoMemory`.
 pub fn ups(past: &Past) -> Result<u64, NoMemory>
     ensures { IfOk result (λ found. found ≡ ups (entries_of past.now)) }
 {
@@ -105,7 +105,7 @@ pub fn pending(alloc: Global, past: &Past, op: OpName) -> Result<Option<Begun>, 
     Ok(find_begun(pend(alloc, past)?, op))
 }
 
-/// All ended operations but this one.
+/// All ended operations except this one.
 pub fn without_ended(
     es: LinkedList<OperationEnd>,
     op: OpName,
@@ -198,7 +198,7 @@ pub fn begins(past: &Past, slot: u32) -> Result<u64, NoMemory>
     }
 }
 
-/// The greatest tick so far.
+/// The largest tick so far.
 pub fn now(past: &Past) -> Tick
     ensures { result ≡ now (entries_of past.now) }
 {
@@ -215,7 +215,7 @@ fn is_due(t: Tick, d: &Timer) -> bool
     d.due.0 <= t.0
 }
 
-/// All deadlines but that of this operation.
+/// All deadlines except that of this operation.
 pub fn without_timer(ds: LinkedList<Timer>, op: OpName) -> Result<LinkedList<Timer>, NoMemory>
     ensures { IfOk result (λ kept. kept ≡ filter (λ d. not (same_op d.op op)) ds) }
 {
@@ -369,7 +369,7 @@ pub fn due_at(alloc: Global, past: &Past, t: Tick) -> Result<LinkedList<OpName>,
     ops_of(alloc, by_deadline(ds)?)
 }
 
-/// How many contexts were opened.
+/// The number of contexts that were opened.
 pub fn opened(past: &Past) -> Result<u64, NoMemory>
     ensures { IfOk result (λ found. found ≡ opened (entries_of past.now)) }
 {
@@ -403,7 +403,7 @@ pub fn ctxs(alloc: Global, past: &Past) -> Result<LinkedList<Ctx>, NoMemory>
     }
 }
 
-/// All topics but this one.
+/// All topics except this one.
 pub fn without_topic(ts: LinkedList<Bytes>, t: &Bytes) -> Result<LinkedList<Bytes>, NoMemory>
     ensures { IfOk result (λ kept. kept ≡ filter (λ u. not (same_bytes u t.now)) ts) }
 {
@@ -420,7 +420,7 @@ pub fn without_topic(ts: LinkedList<Bytes>, t: &Bytes) -> Result<LinkedList<Byte
     }
 }
 
-/// The topics of the context that are on, in the order in which they were put on.
+/// The topics of the context, in the order in which they were added.
 pub fn topics(alloc: Global, past: &Past, c: Ctx) -> Result<LinkedList<Bytes>, NoMemory>
     ensures { IfOk result (λ found. found ≡ topics (entries_of past.now) c) }
 {
@@ -452,7 +452,7 @@ pub fn topics(alloc: Global, past: &Past, c: Ctx) -> Result<LinkedList<Bytes>, N
     }
 }
 
-/// The socket is closed.
+/// Returns whether the socket is closed.
 pub fn is_closed(past: &Past) -> bool
     ensures { result ≡ is_closed (entries_of past.now) }
 {

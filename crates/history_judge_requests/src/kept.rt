@@ -359,7 +359,7 @@ fn wanted_for(role: Role, raw: bool, p: PipeId, items: &LinkedList<Item>) -> boo
     }
 }
 
-/// Frames of the pipe are wanted.
+/// Returns whether frames of the pipe are wanted.
 pub fn wanted(alloc: Global, z: Setting, past: &Past, p: PipeId) -> Result<bool, NoMemory>
     ensures { IfOk result (λ r. r ≡ wanted z (entries_of past.now) p) }
 {
@@ -433,7 +433,7 @@ pub fn stored(alloc: Global, z: Setting, past: &Past, c: Ctx) -> Result<Option<O
     }
 }
 
-/// As the definition of this name.
+/// The request that a send answers, as the definition of this name.
 pub fn route(alloc: Global, z: Setting, past: &Past, op: OpName) -> Result<Option<Origin>, NoMemory>
     ensures { IfOk result (λ r. r ≡ route z (entries_of past.now) op) }
 {

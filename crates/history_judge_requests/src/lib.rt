@@ -1,8 +1,8 @@
-//! What a past holds of requests and of kept messages, computed by a plain program. That is: which requests are live,
-//! what is kept of frames and for which context, and which replies are due.
+//! What a past says about requests and of kept messages, computed by a plain program: the live requests, the frames
+//! that are kept and for which context, and the replies that are due.
 //!
-//! It goes by the definitions of `sp_history` word by word, over what `history_judge_past` computes of pipes and
-//! operations, and so is slow: each notion is computed anew from the past. Its contract is the definition.
+//! It follows the definitions of `sp_history` literally, over what `history_judge_past` computes of pipes and
+//! operations, and so is slow: each notion is computed again from the past. Its contract is the definition.
 #![tactic(auto)]
 
 pub mod kept;

@@ -67,7 +67,7 @@ pub fn next_id(z: Setting, rs: &Requests) -> u32
 
 // ---- One request
 
-/// It is of this context.
+/// Returns whether it belongs to this context.
 pub fn is_on(c: Ctx, r: &LiveRequest) -> bool
     ensures { result ≡ is_on c r.now }
 {
@@ -99,7 +99,7 @@ fn has_room(z: Setting, r: &LiveRequest) -> bool
     }
 }
 
-/// An Out of its bytes is its last one.
+/// The request after an Out of its bytes.
 pub fn with_out(
     alloc: Global,
     t: Tick,
@@ -117,7 +117,7 @@ pub fn with_out(
     Ok(r)
 }
 
-/// A reply that is not malformed goes to the request whose id it has, without the id.
+/// The request after a reply. A reply that is not malformed goes to the request whose id it has, without the id.
 pub fn with_frame(
     alloc: Global,
     z: Setting,
@@ -135,7 +135,7 @@ pub fn with_frame(
     Ok(r)
 }
 
-/// Its oldest reply was given.
+/// The request after its oldest reply was given.
 pub fn with_taken(c: Ctx, r: LiveRequest) -> LiveRequest
     ensures { result ≡ with_taken c r }
 {
@@ -146,7 +146,7 @@ pub fn with_taken(c: Ctx, r: LiveRequest) -> LiveRequest
     r
 }
 
-/// The time of the survey is over.
+/// Returns whether the time of the survey has passed.
 pub fn is_over(z: Setting, t: Tick, r: &LiveRequest) -> bool
     ensures { result ≡ is_over z t r.now }
 {

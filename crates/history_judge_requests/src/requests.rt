@@ -1,4 +1,4 @@
-//! The requests of a socket, and what each entry makes of them.
+//! The requests of a socket, and what each entry does to them.
 
 ghost use Rattle.std.specs.Prelude.{if◌then◌else◌, ◌≡◌, ◌++◌, IfOk, [], ◌∷◌, filter, find, map, not};
 ghost use Rattle.std.specs.Option.{option_map};
@@ -275,7 +275,7 @@ fn without_orphan(op: OpName, rs: Requests) -> Result<Requests, NoMemory>
     })
 }
 
-/// The contexts of the surveys that are over, and all the requests as they were.
+/// The contexts of the surveys that are over, and all the requests unchanged.
 #[derive(Drop)]
 struct Over {
     cs: LinkedList<Ctx>,

@@ -1,17 +1,17 @@
-//! What can be wrong with a history.
+//! The faults of a history.
 
 /// What is wrong.
 #[derive(Clone, Copy, Debug, PartialEq, Eq)]
 pub enum Fault {
-    /// The number of a turn is no caller's.
+    /// The number of a turn isn't a caller's.
     NoSuchCaller,
-    /// The turn begins with an entry that speaks of the one before it.
+    /// The turn begins with an entry that refers to the one before it.
     BeginsInMidTurn,
     /// Something comes between an entry and what has to follow it at once.
     Interrupted,
     /// It comes after the close.
     AfterClose,
-    /// Pipes and contexts are numbered from 1 on.
+    /// Pipes and contexts are numbered from 1.
     WrongNumber,
     /// The numbers of pipes end at 2^31 - 1.
     NoMoreNumbers,
@@ -37,7 +37,7 @@ pub enum Fault {
     WrongGeneration,
     /// The slot has no further generation.
     WornSlot,
-    /// The role doesn't do this.
+    /// The role doesn't support this.
     RoleCannot,
     /// The context isn't open.
     NoSuchContext,
@@ -57,17 +57,17 @@ pub enum Fault {
     RequestOver,
     /// The send was not put on the pipes that it goes to.
     NotSent,
-    /// This seat can't end an operation so.
+    /// This seat can't end an operation like this.
     WrongSeat,
     /// The operation's request was not replaced.
     NotSuperseded,
-    /// The survey's time isn't over.
+    /// The survey's time hasn't passed.
     SurveyNotOver,
     /// The operation has not ended, or was collected.
     NothingToCollect,
     /// The tick is earlier than the last.
     TimeGoesBack,
-    /// The due operations are others.
+    /// The operations that are due are different ones.
     WrongDue,
     /// The role has no contexts.
     NoContexts,
@@ -77,21 +77,21 @@ pub enum Fault {
     StillPending,
     /// The role has no topics.
     NoTopics,
-    /// The topic is on already.
+    /// The topic is there already.
     TopicThere,
-    /// The topic isn't on.
+    /// The topic isn't there.
     TopicAbsent,
-    /// No copy for the context was due.
+    /// There was no copy to make for the context.
     NothingCopied,
     /// Pipes are up.
     StillUp,
-    /// The totals are others.
+    /// The totals are different.
     WrongTotals,
-    /// The turn leaves up a pipe of which a frame was malformed.
+    /// The turn leaves a pipe up that brought a malformed frame.
     MalformedStaysUp,
-    /// The turn leaves an Out of which no send is won.
+    /// The turn leaves an Out that belongs to no send that is won.
     OutUnclaimed,
-    /// The turn leaves up a pipe of which a frame was not kept.
+    /// The turn leaves a pipe up that brought a frame that was not kept.
     UnkeptStaysUp,
     /// Operations ended for a close that didn't come.
     NotShut,
@@ -99,9 +99,9 @@ pub enum Fault {
     NotClosed,
     /// A send that goes to all pipes didn't end in its turn.
     FloodPending,
-    /// A receive is left pending beside a message that is kept.
+    /// A receive is left pending though a message is kept.
     ReceiveWaits,
-    /// A send is left pending beside a pipe that was not found full.
+    /// A send is left pending though a pipe was not found full.
     SendWaits,
     /// A request is left that could go out again.
     RequestWaits,

@@ -31,7 +31,7 @@ use std::collections::LinkedList;
 
 // ---- Small words
 
-/// The act is a receive.
+/// Returns whether the act is a receive.
 pub fn is_recv(act: &RecordedAct) -> bool
     ensures { result ≡ is_recv act.now }
 {
@@ -56,7 +56,7 @@ fn any_ended_at(slot: u32, es: &LinkedList<OperationEnd>) -> bool
     es.iter().any(|e| e.begun.op.slot == slot)
 }
 
-/// No operation of the slot is pending or uncollected.
+/// Returns whether no operation of the slot is pending or uncollected.
 pub fn is_free(alloc: Global, past: &Past, slot: u32) -> Result<bool, NoMemory>
     ensures { IfOk result (λ r. r ≡ is_free (entries_of past.now) slot) }
 {
@@ -71,7 +71,7 @@ fn any_on(c: Ctx, ss: &LinkedList<Begun>) -> bool
     ss.iter().any(|s| s.ctx.0 == c.0)
 }
 
-/// An operation is pending on the context.
+/// Returns whether an operation is pending on the context.
 pub fn is_pending_on(alloc: Global, past: &Past, c: Ctx) -> Result<bool, NoMemory>
     ensures { IfOk result (λ r. r ≡ is_pending_on (entries_of past.now) c) }
 {
@@ -79,7 +79,7 @@ pub fn is_pending_on(alloc: Global, past: &Past, c: Ctx) -> Result<bool, NoMemor
     Ok(any_on(c, &ss))
 }
 
-/// The topic is on.
+/// Returns whether the topic is there.
 pub fn has_topic(ts: &LinkedList<Bytes>, t: &[u8]) -> bool
     ensures { result ≡ has_topic ts.now t.now }
 {
@@ -137,7 +137,7 @@ fn send_state(
     }
 }
 
-/// A begin on the context is refused for the protocol's state.
+/// Returns whether a begin on the context is refused for the protocol's state.
 pub fn is_state(
     alloc: Global,
     z: Setting,
@@ -221,7 +221,7 @@ fn is_closing(past: &Past) -> bool
     }
 }
 
-/// An Unkept came last.
+/// Returns whether an Unkept came last.
 pub fn is_unkept(past: &Past) -> bool
     ensures { result ≡ is_unkept (entries_of past.now) }
 {
@@ -238,7 +238,7 @@ fn is_none_sending(ss: LinkedList<Begun>) -> bool
     }
 }
 
-/// What a turn that ends here leaves open.
+/// What a turn that ends here leaves undone.
 pub fn may_end(alloc: Global, z: Setting, past: &Past) -> Result<Option<Fault>, NoMemory>
     ensures { IfOk result (λ f. Finds f (MayEnd z (entries_of past.now))) }
 {
@@ -284,7 +284,8 @@ fn is_part_of_send(z: Setting, e: &Entry) -> bool
     }
 }
 
-/// The pipe of an Unkept goes down at once, and an Out is followed by the rest of its send.
+/// Returns whether the entry may follow: the pipe of an Unkept goes down at once, and an Out is followed by the rest of
+/// its send.
 pub fn goes_on(alloc: Global, z: Setting, past: &Past, e: &Entry) -> Result<bool, NoMemory>
     ensures { IfOk result (λ r. r ≡ goes_on z (entries_of past.now) e.now) }
 {
@@ -300,7 +301,7 @@ pub fn goes_on(alloc: Global, z: Setting, past: &Past, e: &Entry) -> Result<bool
     }
 }
 
-/// A frame of the pipe came last, and is not malformed.
+/// Returns whether a frame of the pipe came last, and is not malformed.
 pub fn is_after_frame(alloc: Global, z: Setting, past: &Past, p: PipeId) -> Result<bool, NoMemory>
     ensures { IfOk result (λ r. r ≡ is_after_frame z (entries_of past.now) p) }
 {
@@ -335,7 +336,7 @@ fn is_due_on(
     }
 }
 
-/// A copy for the context may find no memory.
+/// Returns whether there may be no memory for a copy for the context.
 pub fn may_dry(alloc: Global, z: Setting, past: &Past, c: Ctx) -> Result<bool, NoMemory>
     ensures { IfOk result (λ b. b ≡ may_dry z (entries_of past.now) c) }
 {
@@ -353,7 +354,7 @@ pub fn may_dry(alloc: Global, z: Setting, past: &Past, c: Ctx) -> Result<bool, N
     is_due_on(alloc, z, past, r)
 }
 
-/// What is wrong with this begin in a turn of caller k.
+/// The fault of this begin in a turn of caller k, if there is one.
 pub fn may_begin(
     alloc: Global,
     z: Setting,
@@ -583,7 +584,7 @@ fn may_end_as(
     }
 }
 
-/// What is wrong with this end.
+/// The fault of this end, if there is one.
 pub fn may_finish(
     alloc: Global,
     z: Setting,
@@ -599,7 +600,7 @@ pub fn may_finish(
     }
 }
 
-/// The operation ended and was not collected.
+/// Returns whether the operation ended and was not collected.
 pub fn is_uncollected(alloc: Global, past: &Past, op: OpName) -> Result<bool, NoMemory>
     ensures { IfOk result (λ r. r ≡ is_uncollected (entries_of past.now) op) }
 {
@@ -607,7 +608,7 @@ pub fn is_uncollected(alloc: Global, past: &Past, op: OpName) -> Result<bool, No
     Ok(es.iter().any(|e| is_of(op, &e.begun)))
 }
 
-/// The pipe is up.
+/// Returns whether the pipe is up.
 pub fn is_up(alloc: Global, past: &Past, p: PipeId) -> Result<bool, NoMemory>
     ensures { IfOk result (λ r. IsTrue r ↔ IsUp (entries_of past.now) p) }
 {
@@ -615,7 +616,7 @@ pub fn is_up(alloc: Global, past: &Past, p: PipeId) -> Result<bool, NoMemory>
     Ok(has_pipe(&pipes, p))
 }
 
-/// It may still come when the socket is closed.
+/// Returns whether the entry may still come when the socket is closed.
 pub fn comes_after_close(e: &Entry) -> bool
     ensures { result ≡ comes_after_close e.now }
 {

@@ -189,7 +189,7 @@ fn is_lost(alloc: Global, z: Setting, past: &Past, out: Option<LastOut>) -> Resu
     Ok(!has_pipe(&pipes, o.pipe) || z.options.resend <= t.0 && o.when.0 <= t.0 - z.options.resend)
 }
 
-/// The request may go out again.
+/// Returns whether the request may go out again.
 pub fn is_due_again(
     alloc: Global,
     z: Setting,
@@ -226,7 +226,7 @@ fn any_again(
     }
 }
 
-/// An Out of these bytes is a request that goes out again.
+/// Returns whether an Out of these bytes is a request that goes out again.
 fn is_resend(alloc: Global, z: Setting, past: &Past, b: &[u8]) -> Result<bool, NoMemory>
     ensures { IfOk result (λ found. found ≡ is_resend z (entries_of past.now) b.now) }
 {
@@ -239,7 +239,7 @@ fn is_resend(alloc: Global, z: Setting, past: &Past, b: &[u8]) -> Result<bool, N
 
 // ---- How a send is won
 
-/// An Out of a send waits for the send's End.
+/// Returns whether an Out of a send waits for the send's End.
 pub fn unclaimed(alloc: Global, z: Setting, past: &Past) -> Result<bool, NoMemory>
     ensures { IfOk result (λ found. found ≡ unclaimed z (entries_of past.now)) }
 {
@@ -404,7 +404,7 @@ fn goes_nowhere(alloc: Global, z: Setting, past: &Past, s: &Begun) -> Result<boo
     Ok(!unclaimed(alloc, z, past)?)
 }
 
-/// The send may be won here.
+/// Returns whether the send may be won here.
 pub fn is_sent(alloc: Global, z: Setting, past: &Past, s: &Begun) -> Result<bool, NoMemory>
     ensures { IfOk result (λ found. found ≡ is_sent z (entries_of past.now) s.now) }
 {

@@ -1,9 +1,9 @@
-//! Reads worked histories, and says of each whether it is what it is said to be.
+//! Reads example histories, and compares the verdict on each with the one that it states.
 //!
 //! A row is a line `= NAME ROLE OPTION.. : VERDICT` and a line for each turn, up to an empty line, the next row or the
-//! end; a line that begins with `#` says something to the reader. A turn is `CALLER: ENTRY, ENTRY ..`, where the
-//! caller's number may be left out for 1. `text` has the words of the entries. Printed are the rows whose verdict is
-//! another one, and how many rows were begun.
+//! end; a line that begins with `#` is a comment. A turn is `CALLER: ENTRY, ENTRY ..`, where the caller's number may be
+//! left out for 1. `text` has the words of the entries. It prints the rows whose verdict is different, and the number
+//! of rows.
 #![tactic(auto)]
 
 mod text;
@@ -18,7 +18,7 @@ use std::collections::LinkedList;
 use text::{setting_of, turn_of};
 use turn_lock::Turn;
 
-/// How many rows were begun, how many had which verdict, and of how many it was another one than was said.
+/// The number of rows, the number with each verdict, and the number whose verdict was different from the stated one.
 #[derive(Clone, Copy)]
 struct RowTally {
     rows: u32,
@@ -100,7 +100,7 @@ fn end_row<R: Print + AllocGlobal>(rt: &R, row: Option<Row>, tally: RowTally) ->
     }
 }
 
-/// A line outside a row is one that has no setting.
+/// Adds a turn to the row. A line outside a row belongs to a row without a setting.
 fn add_turn(alloc: Global, row: Option<Row>, line: &str) -> Result<Row> {
     let mut row = match row {
         Some(row) => row,

@@ -4,20 +4,22 @@
 //! |---|---|
 //! | a pipe comes up, is met, given back, goes down, is taken | `up 1`, `met 0`, `noup 0 bad`, `down 1 failed`, `taken 1` |
 //! | a frame, an out, and what a wire returns | `frame 1 78`, `out 1 78`, `full 1`, `quiet 1`, `stall 1`, `clear 1`, `unkept 1` |
-//! | a begin of slot 0, generation 1 | `recv 0.1`, `send 0.1 HEADER/BODY`, and behind it `k2` a caller, `c1` a context, `d100` a deadline |
-//! | an end | `received 0.1 HEADER/BODY`, `sent 0.1`, `cancelled 0.1 SEAT`, and so `timedout`, `closed`, `superseded`, `surveyover` |
-//! | what was ended is collected | `took 0.1`, and behind it `k2` a caller |
+//! | a begin of slot 0, generation 1 | `recv 0.1`, `send 0.1 HEADER/BODY` |
+//! | the caller, the context and the deadline of a begin, after it | `k2`, `c1`, `d100` |
+//! | an end | `received 0.1 HEADER/BODY`, `sent 0.1`, `cancelled 0.1 SEAT` |
+//! | the other ends, written like `cancelled` | `timedout`, `closed`, `superseded`, `surveyover` |
+//! | what was ended is collected | `took 0.1`, followed by `k2` for a caller |
 //! | a tick and what is due | `tick 100 0.1 1.1` |
 //! | contexts and topics | `open 1`, `shut 1`, `on 0 61`, `off 0 61`, `dry 1` |
 //! | the close | `close BEGUN WON GONE FRAMES OUTS FULLS` |
 //!
 //! Bytes are hexadecimal, `-` where there are none.
 //!
-//! Behind a row's role may stand `raw`, `old` (a full queue of a sub keeps its old messages), and with a number each
-//! `slots3`, `queue3`, `dice7`, `ttl2`, `survey5`, `resend7`.
+//! A row's role may be followed by `raw`, `old` (a full queue of a sub keeps its old messages), and, each with a
+//! number, `slots3`, `queue3`, `dice7`, `ttl2`, `survey5`, `resend7`.
 //!
-//! No clause says what a text reads as: the notation is the rows' own, and this is all that there is of it. A line that
-//! was read as another entry would show in the verdict of its row.
+//! No clause defines how a text is read: the notation is only for the rows, and this is its whole definition. A line
+//! that was read as the wrong entry would show in the verdict of its row.
 
 use sp_base::{Bytes, Ctx, NoMemory, OpName, PipeId, Role, Tick};
 use sp_history::entry::{
@@ -29,7 +31,7 @@ use std::alloc::{AllocError, AllocFailed, Global};
 use std::collections::LinkedList;
 use turn_lock::Turn;
 
-/// The line has no reading, or there was no memory for it.
+/// The line can't be read, or there was no memory for it.
 #[derive(Clone, Copy, Debug)]
 pub struct Unread;
 
@@ -177,7 +179,7 @@ fn cause_of(text: &str) -> Result<Cause, Unread> {
 
 // ---- Entries
 
-/// What may stand behind a begin.
+/// What may follow a begin.
 #[derive(Clone, Copy)]
 struct Extras {
     caller: u32,
@@ -324,7 +326,7 @@ fn words_of<'a>(alloc: Global, text: &'a str) -> Result<Vec<&'a str>, Unread> {
     Ok(words)
 }
 
-/// A line as a turn.
+/// Reads a line as a turn.
 pub fn turn_of(alloc: Global, line: &str) -> Result<Turn<Entry>, Unread> {
     let (k, rest) = match line.split_once(':') {
         Some((k, rest)) => (small(k)?, rest),
@@ -382,8 +384,8 @@ fn with_option(z: Setting, w: &str) -> Result<Setting, Unread> {
     Ok(z)
 }
 
-/// The setting in `= NAME ROLE OPTION..`: 2 slots, 2 callers, a queue of 2, and else what is usual, but for the
-/// options.
+/// Reads the setting in `= NAME ROLE OPTION..`: 2 slots, 2 callers, a queue of 2, and otherwise the usual values,
+/// except for the options.
 pub fn setting_of(alloc: Global, title: &str) -> Result<Setting, Unread> {
     let words = words_of(alloc, title)?;
     let words = words.as_slice();

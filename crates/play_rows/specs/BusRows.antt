@@ -1,4 +1,4 @@
--- Worked records of a bus: each with the rules that it breaks, none where it is a play.
+-- Example records of a bus: each with the rules that it breaks, none where it is a play.
 use Rattle.std.specs.Prelude.{◌≡◌, List, [], ◌∷◌, ◌++◌, Some, None, codes}
 use Rattle.sp_base.specs.declared.role.Role.TheVariants.{Bus}
 use Rattle.turn_lock.specs.declared.turn.Turn.{Turn}
@@ -108,7 +108,7 @@ skips_a_serve =
     ∷ turn (Tick 2 [] ∷ [])
     ∷ []
 
--- which rules they break, and what the plays count and print
+-- the rules that they break, and what the plays count and print
 pub record BusRows : Type 0 where
   pub interval_breaks : broken (socket Bus) (record (bare Bus) { body = Some (codes "m"); count = Some 2; interval = Some 1 }) interval ≡ []
   pub interval_gives : gives (socket Bus) (record (bare Bus) { body = Some (codes "m"); count = Some 2; interval = Some 1 }) interval ≡ (2, [])

@@ -1,4 +1,4 @@
--- Further worked records: each with the rules that it breaks, none where it is a play.
+-- Further example records: each with the rules that it breaks, none where it is a play.
 use Rattle.std.specs.Prelude.{◌≡◌, ℕ, zero, suc, List, [], ◌∷◌, ◌++◌, Some, None, codes}
 use Rattle.sp_base.specs.declared.role.Role.TheVariants.{Bus, Pull, Push, Sub}
 use Rattle.turn_lock.specs.declared.turn.Turn.{Turn}
@@ -16,7 +16,7 @@ use Rattle.play_rows.specs.Rows.{socket, bare, turn, op, unnamed}
 
 -- ---- Topics of a sub
 
--- one of two topics is on at the receive
+-- the context has one of two topics at the receive
 abbrev pub one_of_two : List (Turn Entry)
 one_of_two =
     turn (Topic 0 (codes "a") On ∷ [])
@@ -25,7 +25,7 @@ one_of_two =
     ∷ turn (Begin (op 0 1) 1 0 Recv None ∷ [])
     ∷ []
 
--- the topic is put on once more after the receive was begun
+-- the topic is added again after the receive was begun
 abbrev pub puts_on_later : List (Turn Entry)
 puts_on_later =
     turn (Topic 0 (codes "a") On ∷ [])
@@ -35,7 +35,7 @@ puts_on_later =
     ∷ turn (Topic 0 (codes "a") On ∷ [])
     ∷ []
 
--- it is put on for another context as well
+-- it is also added for another context
 abbrev pub another_context : List (Turn Entry)
 another_context =
     turn (Topic 0 (codes "a") On ∷ [])
@@ -45,7 +45,7 @@ another_context =
     ∷ turn (Begin (op 0 1) 1 0 Recv None ∷ [])
     ∷ []
 
--- it is taken off, and put on again
+-- it is removed, and added again
 abbrev pub takes_off : List (Turn Entry)
 takes_off =
     turn (Topic 0 (codes "a") On ∷ [])
@@ -77,12 +77,12 @@ goes_in_its_turn =
 
 -- ---- How far a pipe is read
 
--- so many frames
+-- n frames
 abbrev pub many : ℕ → List Entry
 many zero = []
 many (suc n) = Frame 1 (codes "x") ∷ many n
 
--- a pipe of a push gives so many frames in the turn between two ticks
+-- a pipe of a push gives n frames in the turn between two ticks
 abbrev pub gives_many : ℕ → List (Turn Entry)
 gives_many n =
     turn (Tick 0 [] ∷ [])
@@ -94,7 +94,7 @@ gives_many n =
 
 -- ---- Slots and names
 
--- so many sends, none of which is collected
+-- n sends, none of which is collected
 abbrev pub sends : ℕ → List (Turn Entry)
 sends zero = []
 sends (suc n) =
@@ -105,7 +105,7 @@ abbrev pub rests_after : ℕ → List (Turn Entry)
 rests_after n =
     (turn (Tick 0 [] ∷ []) ∷ turn (Up 1 1 unnamed ∷ []) ∷ turn (Clear 1 ∷ Quiet 1 ∷ []) ∷ []) ++ sends n ++ turn (Took (op 16 1) 1 ∷ []) ∷ turn (Tick 1 [] ∷ []) ∷ []
 
--- another operation is collected than the one that was begun
+-- an operation is collected other than the one that was begun
 abbrev pub collects_another : List (Turn Entry)
 collects_another =
     turn (Tick 0 [] ∷ [])
@@ -115,7 +115,7 @@ collects_another =
     ∷ turn (Took (op 1 1) 1 ∷ [])
     ∷ []
 
--- which rules they break
+-- the rules that they break
 pub record MoreRows : Type 0 where
   pub one_of_two_breaks : broken (socket Sub) (record (bare Sub) { topics = codes "a" ∷ codes "b" ∷ [] }) one_of_two ≡ rules.Topics ∷ []
   pub the_one_breaks : broken (socket Sub) (record (bare Sub) { topics = codes "a" ∷ [] }) one_of_two ≡ []

@@ -1,4 +1,4 @@
--- Worked records of a pair: each with the rules that it breaks, none where it is a play.
+-- Example records of a pair: each with the rules that it breaks, none where it is a play.
 use Rattle.std.specs.Prelude.{◌≡◌, List, [], ◌∷◌, ◌++◌, Some, None, codes}
 use Rattle.sp_base.specs.declared.role.Role.TheVariants.{Pair0}
 use Rattle.turn_lock.specs.declared.turn.Turn.{Turn}
@@ -96,7 +96,7 @@ other_deadline =
     ∷ turn (Begin (op 0 1) 1 0 (Send (message [] (codes "a"))) (Some 1000) ∷ [])
     ∷ []
 
--- which rules they break, and what the plays count and print
+-- the rules that they break, and what the plays count and print
 pub record Pair0Rows : Type 0 where
   pub sends_breaks : broken (socket Pair0) (record (bare Pair0) { body = Some (codes "a"); count = Some 1 }) sends ≡ []
   pub sends_gives : gives (socket Pair0) (record (bare Pair0) { body = Some (codes "a"); count = Some 1 }) sends ≡ (1, [])

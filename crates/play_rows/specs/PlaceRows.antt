@@ -1,4 +1,4 @@
--- Worked records of links: which entries may come, and which links are in progress.
+-- Example records of links: the entries that may come, and the links that are in progress.
 use Rattle.std.specs.Prelude.{◌≡◌, ◌-◌, ◌^◌, true, false, List, [], ◌∷◌, Some}
 use Rattle.sp_base.specs.declared.role.Role.TheVariants.{Pull, Pair0}
 use Rattle.sp_history.specs.declared.entry.Cause.TheVariants.{TimedOut}
@@ -36,7 +36,7 @@ pub record PlaceRows : Type 0 where
   -- a link of another run is met
   pub other_run : each (keeps_places 1 2) (onto (Met 0 ∷ []) []) ≡ false
   pub beyond : each (keeps_places 0 1) (onto (Met 1 ∷ []) []) ≡ false
-  -- a pair with a pipe takes no other, a pull does
+  -- a pair with a pipe takes no second one, a pull does
   pub pair_refuses : refuses (socket Pair0) (onto (Met 0 ∷ Up 1 0 unnamed ∷ []) []) ≡ true
   pub pair_again : refuses (socket Pair0) (onto (Met 0 ∷ Up 1 0 unnamed ∷ Down 1 whys.Ended ∷ []) []) ≡ false
   pub pull_takes : refuses (socket Pull) (onto (Met 0 ∷ Up 1 0 unnamed ∷ []) []) ≡ false

@@ -1,4 +1,4 @@
--- Worked records of a pub: each with the rules that it breaks, none where it is a play.
+-- Example records of a pub: each with the rules that it breaks, none where it is a play.
 use Rattle.std.specs.Prelude.{◌≡◌, List, [], ◌∷◌, Some, None, codes}
 use Rattle.sp_base.specs.declared.role.Role.TheVariants.{Pub}
 use Rattle.turn_lock.specs.declared.turn.Turn.{Turn}
@@ -30,7 +30,7 @@ waits =
     ∷ turn (Clear 1 ∷ Down 1 whys.Closed ∷ Close (record { begun = 1; won = 1; gone = 0; frames = 0; outs = 1; fulls = 0 }) ∷ [])
     ∷ []
 
--- a full pipe is passed over, and the send counts
+-- a full pipe is skipped, and the send counts
 abbrev pub full : List (Turn Entry)
 full =
     turn (Tick 0 [] ∷ [])
@@ -123,7 +123,7 @@ skips_a_serve =
     ∷ turn (Tick 2 [] ∷ [])
     ∷ []
 
--- which rules they break, and what the plays count and print
+-- the rules that they break, and what the plays count and print
 pub record PubRows : Type 0 where
   pub waits_breaks : broken (socket Pub) (record (bare Pub) { body = Some (codes "m"); count = Some 1 }) waits ≡ []
   pub waits_gives : gives (socket Pub) (record (bare Pub) { body = Some (codes "m"); count = Some 1 }) waits ≡ (1, [])

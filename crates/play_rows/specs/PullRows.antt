@@ -1,4 +1,4 @@
--- Worked records of a pull: each with the rules that it breaks, none where it is a play.
+-- Example records of a pull: each with the rules that it breaks, none where it is a play.
 use Rattle.std.specs.Prelude.{◌≡◌, List, [], ◌∷◌, ◌++◌, Some, None, codes}
 use Rattle.sp_base.specs.declared.role.Role.TheVariants.{Pull}
 use Rattle.turn_lock.specs.declared.turn.Turn.{Turn}
@@ -85,7 +85,7 @@ collected_late =
     ∷ turn (Taken 1 ∷ [])
     ∷ []
 
--- a deadline never is above 2^64 - 1
+-- a deadline is never above 2^64 - 1
 abbrev pub last_deadline : List (Turn Entry)
 last_deadline =
     turn (Tick 18446744073709551615 [] ∷ [])
@@ -93,7 +93,7 @@ last_deadline =
     ∷ turn (Begin (op 0 1) 1 0 Recv (Some 18446744073709551615) ∷ [])
     ∷ []
 
--- a turn has two ticks, with no serving between them
+-- a turn has two ticks, with no serve between them
 abbrev pub two_ticks : List (Turn Entry)
 two_ticks =
     turn (Tick 0 [] ∷ [])
@@ -102,7 +102,7 @@ two_ticks =
     ∷ turn (Tick 1 [] ∷ Tick 2 [] ∷ [])
     ∷ []
 
--- no pipe is up, and no turn stands between two ticks
+-- no pipe is up, and there is no turn between two ticks
 abbrev pub no_turn : List (Turn Entry)
 no_turn =
     turn (Tick 0 [] ∷ [])
@@ -149,7 +149,7 @@ skips_a_serve =
     ∷ turn (Clear 1 ∷ Quiet 1 ∷ [])
     ∷ []
 
--- a receive is begun beside another
+-- a second receive is begun while one is pending
 abbrev pub two_at_once : List (Turn Entry)
 two_at_once =
     turn (Tick 0 [] ∷ [])
@@ -171,7 +171,7 @@ goes_on =
     ∷ turn (Begin (op 0 2) 1 0 Recv None ∷ [])
     ∷ []
 
--- the deadline counts milliseconds for seconds
+-- the deadline counts milliseconds instead of seconds
 abbrev pub short_deadline : List (Turn Entry)
 short_deadline =
     turn (Tick 5 [] ∷ [])
@@ -188,7 +188,7 @@ cancels =
     ∷ turn (End (op 0 1) (Gone Cancelled 1) ∷ Took (op 0 1) 1 ∷ [])
     ∷ []
 
--- which rules they break, and what the plays count and print
+-- the rules that they break, and what the plays count and print
 pub record PullRows : Type 0 where
   pub one_breaks : broken (socket Pull) (record (bare Pull) { count = Some 1 }) one ≡ []
   pub one_gives : gives (socket Pull) (record (bare Pull) { count = Some 1 }) one ≡ (1, codes "hello" ++ 10 ∷ [])

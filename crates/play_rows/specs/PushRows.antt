@@ -1,4 +1,4 @@
--- Worked records of a push: each with the rules that it breaks, none where it is a play.
+-- Example records of a push: each with the rules that it breaks, none where it is a play.
 use Rattle.std.specs.Prelude.{◌≡◌, List, [], ◌∷◌, Some, None, codes}
 use Rattle.sp_base.specs.declared.role.Role.TheVariants.{Push}
 use Rattle.turn_lock.specs.declared.turn.Turn.{Turn}
@@ -110,7 +110,7 @@ too_soon =
     ∷ turn (Begin (op 0 2) 1 0 (Send (message [] (codes "h"))) None ∷ Out 1 (codes "h") ∷ End (op 0 2) (Won Sent) ∷ [])
     ∷ []
 
--- it still waits when the interval is over
+-- it still waits when the interval has passed
 abbrev pub too_late : List (Turn Entry)
 too_late =
     turn (Tick 0 [] ∷ [])
@@ -134,7 +134,7 @@ no_deadline =
     ∷ turn (Begin (op 0 1) 1 0 (Send (message [] (codes "h"))) None ∷ [])
     ∷ []
 
--- a send goes on after one timed out
+-- a send follows one that timed out
 abbrev pub goes_on : List (Turn Entry)
 goes_on =
     turn (Tick 0 [] ∷ [])
@@ -146,7 +146,7 @@ goes_on =
     ∷ turn (Begin (op 0 2) 1 0 (Send (message [] (codes "h"))) (Some 1) ∷ [])
     ∷ []
 
--- which rules they break, and what the plays count and print
+-- the rules that they break, and what the plays count and print
 pub record PushRows : Type 0 where
   pub twice_breaks : broken (socket Push) (record (bare Push) { body = Some (codes "hi"); count = Some 2 }) twice ≡ []
   pub twice_gives : gives (socket Push) (record (bare Push) { body = Some (codes "hi"); count = Some 2 }) twice ≡ (2, [])

@@ -1,4 +1,4 @@
--- Worked records of a rep: each with the rules that it breaks, none where it is a play.
+-- Example records of a rep: each with the rules that it breaks, none where it is a play.
 use Rattle.std.specs.Prelude.{◌≡◌, List, [], ◌∷◌, ◌++◌, Some, None, codes}
 use Rattle.sp_base.specs.declared.role.Role.TheVariants.{Rep}
 use Rattle.turn_lock.specs.declared.turn.Turn.{Turn}
@@ -61,7 +61,7 @@ nowhere =
     ∷ turn (Took (op 0 2) 1 ∷ [])
     ∷ []
 
--- it receives in place of answering
+-- it receives instead of answering
 abbrev pub no_answer : List (Turn Entry)
 no_answer =
     turn (Tick 0 [] ∷ [])
@@ -119,7 +119,7 @@ skips_a_serve =
     ∷ turn (Tick 2 [] ∷ [])
     ∷ []
 
--- which rules they break, and what the plays count and print
+-- the rules that they break, and what the plays count and print
 pub record RepRows : Type 0 where
   pub answers_breaks : broken (socket Rep) (record (bare Rep) { body = Some (codes "OK"); count = Some 1 }) answers ≡ []
   pub answers_gives : gives (socket Rep) (record (bare Rep) { body = Some (codes "OK"); count = Some 1 }) answers ≡ (1, codes "a" ++ 10 ∷ [])

@@ -1,4 +1,4 @@
--- Worked records of a req: each with the rules that it breaks, none where it is a play.
+-- Example records of a req: each with the rules that it breaks, none where it is a play.
 use Rattle.std.specs.Prelude.{◌≡◌, List, [], ◌∷◌, ◌++◌, Some, None, codes}
 use Rattle.sp_base.specs.declared.role.Role.TheVariants.{Req}
 use Rattle.turn_lock.specs.declared.turn.Turn.{Turn}
@@ -69,7 +69,7 @@ times_out =
     ∷ turn (Clear 1 ∷ Down 1 whys.Closed ∷ Close (record { begun = 2; won = 1; gone = 1; frames = 0; outs = 1; fulls = 0 }) ∷ [])
     ∷ []
 
--- it sends again in place of receiving
+-- it sends again instead of receiving
 abbrev pub asks_on : List (Turn Entry)
 asks_on =
     turn (Tick 0 [] ∷ [])
@@ -134,7 +134,7 @@ other_deadline =
     ∷ turn (Begin (op 0 2) 1 0 Recv (Some 1001) ∷ [])
     ∷ []
 
--- which rules they break, and what the plays count and print
+-- the rules that they break, and what the plays count and print
 pub record ReqRows : Type 0 where
   pub asks_breaks : broken (socket Req) (record (bare Req) { body = Some (codes "ping"); count = Some 1 }) asks ≡ []
   pub asks_gives : gives (socket Req) (record (bare Req) { body = Some (codes "ping"); count = Some 1 }) asks ≡ (1, codes "pong" ++ 10 ∷ [])

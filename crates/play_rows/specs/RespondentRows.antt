@@ -1,4 +1,4 @@
--- Worked records of a respondent: each with the rules that it breaks, none where it is a play.
+-- Example records of a respondent: each with the rules that it breaks, none where it is a play.
 use Rattle.std.specs.Prelude.{◌≡◌, List, [], ◌∷◌, ◌++◌, Some, None, codes}
 use Rattle.sp_base.specs.declared.role.Role.TheVariants.{Respondent}
 use Rattle.turn_lock.specs.declared.turn.Turn.{Turn}
@@ -45,7 +45,7 @@ receives =
     ∷ turn (Took (op 0 1) 1 ∷ [])
     ∷ []
 
--- the interval holds back the second reply, not the receive
+-- the interval delays the second reply, not the receive
 abbrev pub interval : List (Turn Entry)
 interval =
     turn (Tick 0 [] ∷ [])
@@ -70,7 +70,7 @@ interval =
     ∷ turn (Begin (op 0 4) 1 0 (Send (message [] (codes "o"))) None ∷ Out 1 (128 ∷ 0 ∷ 0 ∷ 6 ∷ codes "o") ∷ End (op 0 4) (Won Sent) ∷ [])
     ∷ []
 
--- it receives in place of answering
+-- it receives instead of answering
 abbrev pub no_answer : List (Turn Entry)
 no_answer =
     turn (Tick 0 [] ∷ [])
@@ -83,7 +83,7 @@ no_answer =
     ∷ turn (Begin (op 0 2) 1 0 Recv None ∷ [])
     ∷ []
 
--- the second reply comes before the interval is over
+-- the second reply comes before the interval has passed
 abbrev pub too_soon : List (Turn Entry)
 too_soon =
     turn (Tick 0 [] ∷ [])
@@ -117,7 +117,7 @@ another_reply =
     ∷ turn (Begin (op 0 2) 1 0 (Send (message [] (codes "q"))) None ∷ Out 1 (128 ∷ 0 ∷ 0 ∷ 5 ∷ codes "q") ∷ End (op 0 2) (Won Sent) ∷ [])
     ∷ []
 
--- idle, with a request in hand
+-- idle, with a request to answer
 abbrev pub idles : List (Turn Entry)
 idles =
     turn (Tick 0 [] ∷ [])
@@ -140,7 +140,7 @@ two_at_once =
     ∷ turn (Begin (op 1 1) 1 1 Recv None ∷ [])
     ∷ []
 
--- which rules they break, and what the plays count and print
+-- the rules that they break, and what the plays count and print
 pub record RespondentRows : Type 0 where
   pub answers_breaks : broken (socket Respondent) (record (bare Respondent) { body = Some (codes "OK"); count = Some 1 }) answers ≡ []
   pub answers_gives : gives (socket Respondent) (record (bare Respondent) { body = Some (codes "OK"); count = Some 1 }) answers ≡ (1, codes "q" ++ 10 ∷ [])

@@ -1,4 +1,4 @@
--- Words of the worked records.
+-- Definitions for the example records.
 use Rattle.std.specs.Prelude.{ℕ, false, List, [], None}
 use Rattle.turn_lock.specs.declared.turn.Turn.{Turn}
 use Rattle.sp_base.specs.declared.OpName.{OpName}
@@ -16,7 +16,7 @@ use Rattle.cat_play.specs.Scripts.{counted, printed}
 abbrev pub socket : Role → Setting
 socket role = record { role = role; raw = false; options = usual role 0; slots = 16; callers = 1 }
 
--- a plan with nothing but its role
+-- a plan with only its role
 abbrev pub bare : Role → Play
 bare role =
     record { role = role; body = None; topics = []; count = None; interval = None; recv_timeout = None; send_timeout = None; format = formats.Ascii }

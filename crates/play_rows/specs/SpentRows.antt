@@ -16,7 +16,7 @@ pub record SpentRows : Type 0 where
   -- the ticks at which a link was in progress
   pub first_link : greeting_ticks (onto two_links []) 0 ≡ 2
   pub second_link : greeting_ticks (onto two_links []) 1 ≡ 1
-  -- the ticks in order, and those but the last
+  -- the ticks in order, and those except the last
   pub in_order : ticks (onto two_links []) ≡ 5 ∷ 6 ∷ 7 ∷ []
   pub but_last : ticks (before_last_tick (onto two_links [])) ≡ 5 ∷ 6 ∷ []
   pub roomy : roomy_ticks (onto two_links []) ≡ 2

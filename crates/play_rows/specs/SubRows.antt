@@ -1,4 +1,4 @@
--- Worked records of a sub: each with the rules that it breaks, none where it is a play.
+-- Example records of a sub: each with the rules that it breaks, none where it is a play.
 use Rattle.std.specs.Prelude.{◌≡◌, List, [], ◌∷◌, ◌++◌, Some, None, codes}
 use Rattle.sp_base.specs.declared.role.Role.TheVariants.{Sub}
 use Rattle.turn_lock.specs.declared.turn.Turn.{Turn}
@@ -64,7 +64,7 @@ no_topic =
     ∷ turn (Begin (op 0 1) 1 0 Recv None ∷ [])
     ∷ []
 
--- a further topic is on
+-- a further topic is there
 abbrev pub more_topics : List (Turn Entry)
 more_topics =
     turn (Topic 0 (codes "ab") On ∷ [])
@@ -111,7 +111,7 @@ long_deadline =
     ∷ turn (Begin (op 0 1) 1 0 Recv (Some 3010) ∷ [])
     ∷ []
 
--- which rules they break, and what the plays count and print
+-- the rules that they break, and what the plays count and print
 pub record SubRows : Type 0 where
   pub topic_breaks : broken (socket Sub) (record (bare Sub) { count = Some 1; topics = (codes "ab") ∷ [] }) topic ≡ []
   pub topic_gives : gives (socket Sub) (record (bare Sub) { count = Some 1; topics = (codes "ab") ∷ [] }) topic ≡ (1, codes "abc" ++ 10 ∷ [])

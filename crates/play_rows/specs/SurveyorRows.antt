@@ -1,4 +1,4 @@
--- Worked records of a surveyor: each with the rules that it breaks, none where it is a play.
+-- Example records of a surveyor: each with the rules that it breaks, none where it is a play.
 use Rattle.std.specs.Prelude.{◌≡◌, List, [], ◌∷◌, ◌++◌, Some, None, codes}
 use Rattle.sp_base.specs.declared.role.Role.TheVariants.{Surveyor}
 use Rattle.turn_lock.specs.declared.turn.Turn.{Turn}
@@ -61,7 +61,7 @@ found_over =
     ∷ turn (Begin (op 0 3) 1 0 (Send (message [] (codes "s"))) None ∷ Out 1 (128 ∷ 0 ∷ 0 ∷ 1 ∷ codes "s") ∷ End (op 0 3) (Won Sent) ∷ [])
     ∷ []
 
--- it waits for a pipe, and a survey of a second that nobody answers is over
+-- it waits for a pipe, and a survey of a second without answers is over
 abbrev pub nobody : List (Turn Entry)
 nobody =
     turn (Tick 0 [] ∷ [])
@@ -157,7 +157,7 @@ leaves =
     ∷ turn (Clear 1 ∷ Quiet 1 ∷ [])
     ∷ []
 
--- which rules they break, and what the plays count and print
+-- the rules that they break, and what the plays count and print
 pub record SurveyorRows : Type 0 where
   pub survey_breaks : broken (socket Surveyor) (record (bare Surveyor) { body = Some (codes "s"); count = Some 1 }) survey ≡ []
   pub survey_gives : gives (socket Surveyor) (record (bare Surveyor) { body = Some (codes "s"); count = Some 1 }) survey ≡ (1, (codes "a" ++ 10 ∷ []) ++ (codes "b" ++ 10 ∷ []))

@@ -1,5 +1,5 @@
--- A worked run as a whole: what stands on its link, and what its rounds were spent on. It shows that the facts of a run
--- can be met together.
+-- An example run as a whole: what is written on its link, and what its rounds were spent on. It shows that the facts of
+-- a run can be met together.
 use Rattle.std.specs.Prelude.{◌++◌, List, [], ◌∷◌, false, Some, None, codes}
 use Rattle.std.specs.FinMap.{empty, insert}
 use Rattle.turn_lock.specs.declared.turn.Turn.{Turn}

@@ -334,7 +334,7 @@ module _ (m : Bus) (t : Moment) (p : ℕ) (v : MessageView) (h : Ties m t) where
         goes_on _ t (Frame p v.body) refl refl refl (λ s e q. q) h.1,
       )
 
-  -- it is kept where there is a place for it, else discarded
+  -- it is kept where there is a place for it, otherwise discarded
   pub frame_ties : {U : Type 0} (k : Buffer MessageView) (x : MessageView) (r : Result U MessageView) → x ≡ record v { header = header_of m.raw p } → IsOk r ↔ (length m.kept.items < m.kept.capacity) → OnOk r (k ≡ buffer (m.kept.items ++ x ∷ []) m.kept.capacity) → IfErr r (λ y. (y ≡ x) × (k ≡ m.kept)) → Ties (record m { kept = k }) (also t (Frame p v.body))
   frame_ties k x (Ok u) is fits ok err = kept_ties k x (less (length m.kept.items) m.kept.capacity m.options.queue (fits.0 refl) h.0.places) is ok
     where

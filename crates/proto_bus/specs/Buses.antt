@@ -1,4 +1,4 @@
--- What a bus stands for.
+-- The history that a bus stands for.
 use Rattle.std.specs.Prelude.{◌≡◌, ℕ, Bool, true, false, ⊤, List, [], ◌∷◌, length, map, filter, Option, None}
 use Rattle.sp_base.specs.declared.OpName.{OpName}
 use Rattle.sp_base.specs.declared.role.Role.TheVariants as role
@@ -23,11 +23,11 @@ bus_kind raw options = record { role = role.Bus; raw = raw; options = options }
 abbrev pub message_in : Item → RecordedMessage
 message_in i = i.message
 
--- how many operations are left to be offered at most
+-- the maximum number of operations that are still to be offered
 abbrev pub offers_left : Bus → ℕ
 offers_left m = count m.pending
 
--- how many operations more can begin
+-- how many more operations can begin
 abbrev pub places_left : Bus → ℕ
 places_left m = room m.pending
 
@@ -55,7 +55,7 @@ abbrev pub IsFlood : Bool → Option ℕ → List MessageView → RecordedAct �
 IsFlood raw out copies Recv = ⊤
 IsFlood raw out copies (Send m) = (out ≡ left_out_of raw m.header) × AreCopies m.body copies
 
--- The bus is of this kind, knows how many pipes are up, keeps these items, for which it has places, and has these
+-- The bus has this kind, knows how many pipes are up, keeps these items, for which it has places, and has these
 -- operations pending
 pub record Shows (m : Bus) (k : Kind) (us : List ℕ) (is : List Item) (ss : List Begun) (cs : List ℕ) : Type 0 where
   pub kind : k ≡ bus_kind m.raw m.options

@@ -1,17 +1,16 @@
 //! The machine of bus (nng_bus(7)), cooked and raw.
 //!
-//! A send goes to every pipe that is up and has room, in the turn of its begin. It takes a copy for each of them then,
+//! A send goes to every pipe that is up and has room, in the turn of its begin. It then takes a copy for each of them,
 //! so that going out takes no memory. Raw, a header of 4 bytes or more leaves out the pipe that its first word names,
-//! so that a message which is sent as it was received doesn't go back. Frames are kept, at most `queue` in all, whose
-//! places are taken when the bus is made; a further one is discarded. Raw, the header of what came is the id of its
-//! pipe.
+//! so a message that is sent as it was received doesn't go back. Frames are kept, at most `queue` in all, and the
+//! memory for them is taken when the bus is made; a further one is discarded. Raw, the header of what came is the id of
+//! its pipe.
 //!
 //! Who owns what: a `Bus` owns what it keeps, the messages of the sends that wait (`Pending`), and the copies of the
 //! send that is going out. Of its pipes it knows only how many are up: the core asks for each by `goes_to`, and hands
 //! it its copy.
 //!
-//! To read: `Ties` of `specs/Buses`, then the calls of `Proto` below. What a flood is to the copies stands in
-//! `proto_shared`.
+//! To read: `Ties` of `specs/Buses`, then the calls of `Proto` below. How a flood uses the copies is in `proto_shared`.
 #![tactic(auto)]
 
 ghost use Rattle.std.specs.Prelude.{◌≡◌, ◌<◌, ◌≤◌, ◌+◌, ◌∷◌, ◌++◌, ℕ, List, [], IfOk, IsOk, IfErr, OnOk, OnErr, Option, true, find, filter, length, is_some, Some, None, if◌then◌else◌, nat_lt};
@@ -42,14 +41,14 @@ pub struct Bus {
     alloc: Global,
     raw: bool,
     options: Options,
-    /// How many pipes are up.
+    /// The number of pipes that are up.
     pipes: usize,
-    /// The oldest first, with places for `queue`.
+    /// The messages that are kept, the oldest first, with places for `queue`.
     kept: HeapCircularBuffer<Message>,
     pending: Pending,
-    /// Of the send that is pending, one for each pipe that gets it.
+    /// The copies of the pending send, one for each pipe that gets it.
     copies: Vec<Message>,
-    /// The pipe that doesn't.
+    /// The pipe that doesn't get it.
     left_out: Option<PipeId>,
 }
 
@@ -63,7 +62,7 @@ fn left_out_by(raw: bool, b: &[u8]) -> Option<PipeId>
     Some(PipeId(u32::from_be_bytes([b[0], b[1], b[2], b[3]])))
 }
 
-// Whether this is the pipe that is left out.
+// Returns whether this is the pipe that is left out.
 fn leaves_out(left_out: Option<PipeId>, p: PipeId) -> bool
     ensures { result ≡ is_number left_out p }
 {
@@ -73,7 +72,7 @@ fn leaves_out(left_out: Option<PipeId>, p: PipeId) -> bool
     }
 }
 
-// As it is kept: raw, with the id of its pipe.
+// The message as it is kept: raw, with the id of its pipe.
 fn received(raw: bool, p: PipeId, m: Message) -> Message
     requires { m.header ≡ [] }
     ensures { result ≡ record m { header = header_of raw p } }
@@ -86,7 +85,7 @@ fn received(raw: bool, p: PipeId, m: Message) -> Message
 }
 
 impl Bus {
-    /// A bus to which nothing has happened. Takes the places of `queue` messages.
+    /// A new bus. Takes the memory for `queue` messages.
     pub fn new(alloc: Global, options: Options, raw: bool) -> Result<Bus, NoMemory>
         ensures { IfOk result (λ m. Starts Ties m (bus_kind raw options)) }
     {
@@ -163,7 +162,7 @@ impl Proto for Bus {
         true
     }
 
-    /// It has the places of all that it keeps, so it is never out of memory for a frame.
+    /// Never out of memory: there is already memory for all that it keeps.
     fn frame(&mut self, p: PipeId, m: Message) -> Verdict
         requires { m.header ≡ [] }
         ensures kept { (t : Moment) → Lawful (also t (Frame p m.body)) → Ties self.old t → Frames (Ties self.new) result t p m.body }

@@ -1,4 +1,4 @@
--- Which contexts are dry.
+-- The contexts that are dry.
 use Rattle.std.proofs.Common.{◌≡◌, refl, ap, sym, ◌∙◌, List, [], ◌∷◌, ◌++◌, ℕ, ◌+◌, ◌<◌, ◌≤◌, Bool, true, false, cond, arith, Option, Some, None, map}
 use Rattle.std.specs.Prelude.{◌&&◌, ◌||◌, ◌==◌}
 use Rattle.std.specs.declared.cmp.Ordering.{Ordering}
@@ -28,7 +28,7 @@ context c b = record { ctx = c; is_dry = b }
 pair : {A : Type 0} {x y : A} {xs ys : List A} → x ≡ y → xs ≡ ys → x ∷ xs ≡ y ∷ ys
 pair {A} {x} {y} {xs} {ys} p q = ap (λ v. v ∷ xs) p ∙ ap (λ vs. y ∷ vs) q
 
--- it is another one's, where that of the context stands before it
+-- it is another context's entry, where that of the context is before it
 others_isnt : (c n k : ℕ) → n ≡ c → nat_cmp n k ≡ Less → (k == c) ≡ false
 others_isnt c n k e h = ap (λ (m : ℕ). k == m) (sym e) ∙ behind n k h
 
@@ -43,7 +43,7 @@ none_dry : (tick c n : ℕ) (es : List (ℕ × ℕ)) → n ≡ c → AllByRecurs
 none_dry tick c n [] h o = refl
 none_dry tick c n (e ∷ es) h o = ap (λ a. (a && (e.1 == tick)) || dry_at c (map (context_in tick) es)) (others_isnt c n e.0 h o.0) ∙ none_dry tick c n es h o.1
 
--- the only one of the context decides
+-- the only entry of the context decides
 pub dry_seen : (tick c : ℕ) (es : List (ℕ × ℕ)) → IsStrictlySortedBy nat_cmp (keys_of es) → dry_found tick (lookup (is_at (nat_cmp c)) es) ≡ dry_at c (map (context_in tick) es)
 dry_seen tick c [] o = refl
 dry_seen tick c (e ∷ es) o = go (is_at (nat_cmp c) e.0) (e.0 == c) (at_is c e.0) refl (dry_seen tick c es (sorted_tail nat_cmp e.0 (keys_of es) o))
@@ -77,7 +77,7 @@ one_dried tick c (e ∷ es) o = go (is_at (nat_cmp c) e.0) (at_is c e.0) (one_dr
     go true h again = pair (now_dried tick c e (sym h)) (others_dried tick c e.0 es (equal_of e.0 c (sym h)) (sorted_head nat_cmp e.0 (keys_of es) o))
     go false h again = pair (same_dried tick c e (sym h)) again
 
--- a context that isn't open has no context
+-- a context that isn't open has no entry
 pub none_dried : (tick c : ℕ) (es : List (ℕ × ℕ)) → lookup (is_at (nat_cmp c)) es ≡ None → map (context_in tick) es ≡ map (dried c) (map (context_in tick) es)
 none_dried tick c [] h = refl
 none_dried tick c (e ∷ es) h = go (is_at (nat_cmp c) e.0) (at_is c e.0) h (none_dried tick c es)
@@ -121,7 +121,7 @@ pub anew_view : (tick : ℕ) (es : List (ℕ × ℕ)) → map (context_in 1) (wi
 anew_view tick [] = refl
 anew_view tick (e ∷ es) = ap (λ (rest : List ReqContextView). context e.0 false ∷ rest) (anew_view tick es)
 
--- ---- One more, and one less
+-- ---- One more, and one fewer
 
 pub more_view : (tick c : ℕ) (es : List (ℕ × ℕ)) → 1 ≤ tick → map (context_in tick) (es ++ (c, 0) ∷ []) ≡ map (context_in tick) es ++ record { ctx = c; is_dry = false } ∷ []
 more_view tick c [] l = ap (λ (b : Bool). context c b ∷ []) (below 0 tick (omega (arith, l)))

@@ -1,4 +1,4 @@
--- Live requests that are looked at when they are due: what keeps it so.
+-- Live requests that are looked at when they are due: the rule that is kept.
 use Rattle.std.proofs.Common.{◌≡◌, refl, ap, sym, ◌∙◌, List, [], ◌∷◌, ◌++◌, ℕ, ◌+◌, ◌≤◌, ◌<◌, length, get_or, subst, Bool, true, false, cond, arith, Option, Some, None, map, drop, filter, inl, inr}
 use Rattle.std.specs.Prelude.{◌⊎◌, find, IfNone, IfSome, not, is_some, nat_le, ◌&&◌, ◌||◌, ◌==◌}
 use Rattle.std.specs.List.{list_any}
@@ -49,9 +49,9 @@ isnt_false : (b : Bool) → not b ≡ false → b ≡ true
 isnt_false true h = refl
 isnt_false false h = absurd cc
 
--- ---- The one of a context
+-- ---- The request of a context
 
--- where each context has one, none passes if none of those passes that are found by their contexts
+-- where each context has one, none passes if none of those that are found by their contexts passes
 pub all_found : (Q : Live → Bool) (xs : List Live) → AreDistinct (map live_ctx xs) → ((x : Live) → find (is_live_on x.ctx) xs ≡ Some x → Q x ≡ false) → list_any Q xs ≡ false
 all_found Q [] d k = refl
 all_found Q (y ∷ xs) d k =
@@ -90,11 +90,11 @@ module _ (v w : DuesView) (late later : LastOut → Bool) (dry now : ℕ → Boo
       go false None h = h
       go false (Some o) h = flip (is_seen v late dry last x.ctx o) (is_seen w later now next x.ctx o) (k x.ctx o) h
 
-  -- of all
+  -- the same for all requests
   pub seen_all : (xs : List Live) → ((q : ℕ) → now q ≡ true → covers w.dry q ≡ true) → ((c : ℕ) (o : LastOut) → is_seen v late dry last c o ≡ true → is_seen w later now next c o ≡ true) → AreSeen v late dry last xs → AreSeen w later now next xs
   seen_all xs d k h = (none_as (is_unseen v late dry last) (is_unseen w later now next) xs (unseen_as k) h.0, d)
 
-  -- of those that wait for a reply
+  -- the same for those that wait for a reply
   pub seen_live : (xs : List Live) → AreDistinct (map live_ctx xs) → ((q : ℕ) → now q ≡ true → covers w.dry q ≡ true) → ((c : ℕ) (o : LastOut) → awaited (find (is_live_on c) xs) ≡ Some o → is_seen v late dry last c o ≡ true → is_seen w later now next c o ≡ true) → AreSeen v late dry last xs → AreSeen w later now next xs
   seen_live xs a d k h = (all_found (is_unseen w later now next) xs a (λ x f. one x f (is_some x.reply) refl x.last_out refl (none_at (is_unseen v late dry last) (is_live_on x.ctx) xs x h.0 f)), d)
     where
@@ -160,13 +160,13 @@ seen_sent v w late dry last c o xs l n it more due dr h =
         shut true = refl
         shut false = refl
 
--- one is changed, and waits no more
+-- one is changed, and no longer waits
 pub seen_kept : (v : DuesView) (late : LastOut → Bool) (dry : ℕ → Bool) (last : ℕ) (P : Live → Bool) (f : Live → Live) (xs ys : List Live) → ((x : Live) → is_some (f x).reply ≡ true) → ys ≡ with_found P f xs → AreSeen v late dry last xs → AreSeen v late dry last ys
 seen_kept v late dry last P f xs ys k e h = (ap (list_any (is_unseen v late dry last)) e ∙ none_with (is_unseen v late dry last) (is_unseen v late dry last) P f xs (λ x q. ap (λ b. not b && is_unseen_out v late dry last (f x).ctx (f x).last_out) (k x)) (λ x q. q) h.0, h.1)
 
 -- ---- What is late changes
 
--- as little is late of the pipes that came up, and as many contexts are dry
+-- no more of the pipes that came up are late, and no more contexts are dry
 pub seen_late : (v : DuesView) (late later : LastOut → Bool) (dry now : ℕ → Bool) (last next : ℕ) (xs : List Live) → ((o : LastOut) → o.pipe ≤ last → later o ≡ late o) → ((q : ℕ) → now q ≡ dry q) → last ≤ next → AreSeen v late dry last xs → AreSeen v later now next xs
 seen_late v late later dry now last next xs l d n h =
     seen_all v v late later dry now last next xs (λ q e. h.1 q (sym (d q) ∙ e))
@@ -181,7 +181,7 @@ seen_late v late later dry now last next xs l d n h =
     above : (p : ℕ) → p ≤ last → nat_le p next ≡ true
     above p e = grind (arith, nat_tests)
 
--- what went out of a context is of a live request
+-- what went out of a context belongs to a live request
 pub live_at : (P : Live → Bool) (xs : List Live) (o : LastOut) → awaited (find P xs) ≡ Some o → list_any P xs ≡ true
 live_at P [] o z = absurd cc
 live_at P (x ∷ xs) o z = go (P x) (live_at P xs o) z
@@ -190,7 +190,7 @@ live_at P (x ∷ xs) o z = go (P x) (live_at P xs o) z
     go true again z = refl
     go false again z = again z
 
--- more is late, and what is late by it is looked at
+-- more is late, and all that has become late is looked at
 pub seen_moved : (v w : DuesView) (late later T : LastOut → Bool) (dry now : ℕ → Bool) (last : ℕ) (xs : List Live) → AreDistinct (map live_ctx xs) → StayLate late later → ((o : LastOut) → later o ≡ true → (late o ≡ true) ⊎ (T o ≡ true)) → ((o : LastOut) → T o ≡ true → later o ≡ true)
     → ((q : ℕ) → now q ≡ true → covers w.dry q ≡ true) → ((q : ℕ) → list_any (is_live_on q) xs ≡ true → dry q ≡ true → (now q ≡ true) ⊎ (covers w.due q ≡ true)) → ((q : ℕ) → list_any (is_live_on q) xs ≡ true → covers v.due q ≡ true → covers w.due q ≡ true)
     → ((c : ℕ) (o : LastOut) → T o ≡ false → covers_by v.outs (is_sent c o) ≡ true → covers_by w.outs (is_sent c o) ≡ true)
@@ -225,7 +225,7 @@ seen_moved v w late later T dry now last xs a s l t d f e g i h = seen_live v w 
 
 -- ---- Contexts that are looked at
 
--- what is looked at no more is not due
+-- what is no longer looked at is not due
 pub seen_dropped : (v : DuesView) (late : LastOut → Bool) (dry : ℕ → Bool) (last c : ℕ) (xs : List Live) → AreDistinct (map live_ctx xs) → Some c ≡ head_of v.due.items → ((o : LastOut) → awaited (find (is_live_on c) xs) ≡ Some o → (late o && not (dry c)) ≡ false)
     → AreSeen v late dry last xs → AreSeen (record v { due = record { whole = v.due.whole; items = drop 1 v.due.items } }) late dry last xs
 seen_dropped v late dry last c xs a e n h =
@@ -355,7 +355,7 @@ module _ (h g : HintsView SentOut) (e : SentOut) (f : Some e ≡ head_of h.items
       go false q = refl
       go true q = let bad : true ≡ false = sym (ap (λ w. nat_le (w + resend) now) (sym (sent_when c o e q)) ∙ m) ∙ n in absurd cc
 
-  -- it is the one, which is looked at, or another
+  -- it is the one that is looked at, or another one
   pub late_or : (c : ℕ) (o : LastOut) (D : Type 0) → (is_sent c o e ≡ true → D) → covers_by h (is_sent c o) ≡ true → (covers_by g (is_sent c o) ≡ true) ⊎ D
   late_or c o D d k = go (is_sent c o e) refl
     where
@@ -363,7 +363,7 @@ module _ (h g : HintsView SentOut) (e : SentOut) (f : Some e ≡ head_of h.items
       go true q = inr (d q)
       go false q = inl (dropped_first (is_sent c o) q k)
 
--- none is left whose time has come, where that of the first has not
+-- none is left whose time has come, where that of the first has not come
 pub none_come : {A : Type 0} (resend now c t : ℕ) (o : LastOut) (h : HintsView SentOut) → AreSince t h.items → h.whole ≡ true → nat_le (t + resend) now ≡ false → nat_le (o.when + resend) now ≡ true → covers_by h (is_sent c o) ≡ true → A
 none_come resend now c t o h f w n m k = let later : t ≤ o.when = f c o (sym (ap (λ b. not b || list_any (is_sent c o) h.items) w) ∙ k) in absurd (never later)
   where
@@ -378,7 +378,7 @@ module _ (h g : HintsView SentOut) (p e : ℕ) (s : g.whole ≡ h.whole) (l : Is
   still true q n k = absurd cc
   still false q n k = l.others c o ∙ ap (λ b. cond b false (list_any (is_sent c o) h.items)) q ∙ k
 
-  -- one on the pipe is gone, and the other is on another pipe
+  -- one on the pipe is gone, and the other one is on another pipe
   pub off_kept : (o.pipe == p) ≡ false → covers_by h (is_sent c o) ≡ true → covers_by g (is_sent c o) ≡ true
   off_kept n k = ap (λ b. not b || list_any (is_sent c o) g.items) s ∙ go h.whole k
     where
@@ -390,7 +390,7 @@ module _ (h g : HintsView SentOut) (p e : ℕ) (s : g.whole ≡ h.whole) (l : Is
       go false k = refl
       go true k = still (is_sent c o l.gone) refl (other (is_sent c o l.gone) refl) k
 
-  -- it is the one that is gone, or is still there
+  -- it is the one that is gone, or it is still there
   pub gone_or : list_any (is_sent c o) h.items ≡ true → (list_any (is_sent c o) g.items ≡ true) ⊎ (e ≡ c)
   gone_or k = go (is_sent c o l.gone) refl
     where
@@ -430,7 +430,7 @@ pub whole_or : {D : Type 0} (b : Bool) → (b ≡ false → D) → (b ≡ true �
 whole_or true f g = g refl
 whole_or false f g = f refl
 
--- ---- A dry context more
+-- ---- One more dry context
 
 pub seen_dry : (v : DuesView) (g : HintsView ℕ) (late : LastOut → Bool) (dry now : ℕ → Bool) (last c : ℕ) (xs : List Live) → ((q : ℕ) → (q == c) ≡ false → now q ≡ dry q) → (dry c ≡ true → now c ≡ true) → covers g c ≡ true → ((q : ℕ) → covers v.dry q ≡ true → covers g q ≡ true)
     → AreSeen v late dry last xs → AreSeen (record { due = v.due; dry = g; outs = v.outs }) late now last xs
@@ -456,7 +456,7 @@ pub on_pipe : (o : LastOut) (p : ℕ) (late : LastOut → Bool) → (late o ≡ 
 on_pipe o p late (inl e) = inl e
 on_pipe o p late (inr e) = inr (ap (λ n. n == p) e ∙ same_number p)
 
--- the next is looked at, or one of the rest is still to be
+-- the next is looked at, or one of the rest is still to be looked at
 pub next_or : {A : Type 0} (P : A → Bool) (xs : List A) (i : ℕ) (x : A) (D : Type 0) → i < length xs → x ≡ get_or xs i x → (P x ≡ true → D) → (list_any P (drop i xs) ≡ true) ⊎ D → (list_any P (drop (i + 1) xs) ≡ true) ⊎ D
 next_or P xs i x D l e d (inr k) = inr k
 next_or P xs i x D l e d (inl k) = go (P x) refl (ap (λ y. P y || list_any P (drop (i + 1) xs)) e ∙ sym (ap (list_any P) (drop_more xs i x l)) ∙ k)
@@ -465,12 +465,12 @@ next_or P xs i x D l e d (inl k) = go (P x) refl (ap (λ y. P y || list_any P (d
     go true f k = inr (d f)
     go false f k = inl k
 
--- none is left behind the last
+-- none is left after the last
 pub none_behind : {A : Type 0} (P : A → Bool) (xs : List A) (i : ℕ) (D : Type 0) → length xs ≤ i → (list_any P (drop i xs) ≡ true) ⊎ D → D
 none_behind P xs i D l (inr k) = k
 none_behind P xs i D l (inl k) = let bad : true ≡ false = sym k ∙ ap (list_any P) (drop_all i xs l) in absurd cc
 
--- what waits for a reply is that of a live request
+-- what waits for a reply belongs to a live request
 pub awaited_so : (c : ℕ) (o : LastOut) (xs : List Live) → awaited (find (is_live_on c) xs) ≡ Some o → list_any (waits_so c o) xs ≡ true
 awaited_so c o [] z = absurd cc
 awaited_so c o (x ∷ xs) z = go (x.ctx == c) z (awaited_so c o xs)

@@ -1,4 +1,4 @@
--- What went out, as keys of a set in the order of time and of one by the pipes.
+-- What went out, as keys of two ordered sets: by time and by pipe.
 use Rattle.std.proofs.Common.{◌≡◌, refl, ap, sym, ◌∙◌, subst, List, [], ◌∷◌, ℕ, ◌+◌, ◌≤◌, Bool, true, false, cond, arith, map, filter, length, Ordering, Less, Equal, Greater, Result, Ok, Err}
 use Rattle.std.specs.Prelude.{nat_lt, ◌&&◌, ◌||◌, ◌==◌, OnOk, is_err}
 use Rattle.std.specs.List.{list_any}
@@ -76,7 +76,7 @@ by_pipe false true false = refl
 by_pipe false false true = refl
 by_pipe false false false = refl
 
--- it is that key
+-- it is this key
 pub timed_is : (c : ℕ) (o : LastOut) (k : ℕ × ℕ × ℕ) → is_sent c o (timed k) ≡ is_eq (key_cmp k (time_key c o))
 timed_is c o k = by_time (k.2 == c) (k.1 == o.pipe) (k.0 == o.when) ∙ sym (key_eq k.0 k.1 k.2 o.when o.pipe c)
 
@@ -90,7 +90,7 @@ module _ (see : ℕ × ℕ × ℕ → SentOut) (key : ℕ → LastOut → ℕ ×
   any_seen c o [] = refl
   any_seen c o (k ∷ ks) = ap (λ b. b || list_any (is_sent c o) (map see ks)) (is c o k ∙ turned_eq k (key c o)) ∙ ap (λ b. is_eq (key_cmp (key c o) k) || b) (any_seen c o ks)
 
-  -- one key is put in, or taken out
+  -- one key is added, or removed
   pub seen_set : (b : Bool) (k : ℕ × ℕ × ℕ) (old new : List (ℕ × ℕ × ℕ)) → ((q : ℕ × ℕ × ℕ) → has_key q new ≡ cond (is_eq (key_cmp k q)) b (has_key q old)) → IsSet b (see k) (map see old) (map see new)
   seen_set b k old new u c o =
       any_seen c o new ∙ u (key c o) ∙ ap (λ x. cond x b (has_key (key c o) old)) (sym (is c o k)) ∙ ap (λ x. cond (is_sent c o (see k)) b x) (sym (any_seen c o old))
@@ -182,7 +182,7 @@ le_cmp m n h = go (nat_lt m n) refl (m == n) refl h
     go false e true f k = same f
     go false e false f k = absurd cc
 
--- the first number of the one is no greater
+-- the first number of one key is not greater
 pub key_first : (x y : ℕ × ℕ × ℕ) → is_gt (key_cmp x y) ≡ false → x.0 ≤ y.0
 key_first x y h = le_cmp x.0 y.0 (ge_first (nat_cmp x.0 y.0) (nat_cmp x.1 y.1) (nat_cmp x.2 y.2) h)
 
@@ -190,7 +190,7 @@ key_first x y h = le_cmp x.0 y.0 (ge_first (nat_cmp x.0 y.0) (nat_cmp x.1 y.1) (
 pub least_time : (k : ℕ × ℕ × ℕ) (ks : List (ℕ × ℕ × ℕ)) → ((q : ℕ × ℕ × ℕ) → has_key q ks ≡ true → is_gt (key_cmp k q) ≡ false) → AreSince k.0 (map timed ks)
 least_time k ks h c o e = key_first k (time_key c o) (h (time_key c o) (sym (any_seen timed time_key timed_is c o ks) ∙ e))
 
--- nothing of a pipe from this on is before the start of its range
+-- no key of a pipe from this one on is before the start of its range
 pub from_pipe : (p : ℕ) (c : ℕ) (o : LastOut) → p ≤ o.pipe → is_gt (key_cmp (p, 0, 0) (pipe_key c o)) ≡ false
 from_pipe p c o l = go (nat_lt p o.pipe) refl (p == o.pipe) refl
   where
@@ -239,7 +239,7 @@ piped_in k ks h = any_seen piped pipe_key piped_is k.1 (out_in (piped k)) ks ∙
 pub timed_in : (k : ℕ × ℕ × ℕ) (ks : List (ℕ × ℕ × ℕ)) → list_any (is_entry (timed k)) (map timed ks) ≡ true → has_key k ks ≡ true
 timed_in k ks h = sym (any_seen timed time_key timed_is k.2 (out_in (timed k)) ks) ∙ h
 
--- ---- One entry more, or less
+-- ---- One more entry, or one fewer
 
 pub same_entry : (e : SentOut) → is_entry e e ≡ true
 same_entry e = both (e.ctx == e.ctx) _ (same_number e.ctx) (both (e.pipe == e.pipe) _ (same_number e.pipe) (same_number e.when))

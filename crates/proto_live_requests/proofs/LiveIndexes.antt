@@ -1,4 +1,4 @@
--- What is known of live requests by their contexts and ids, when one begins, ends or changes; and where one stands.
+-- What is known of live requests by their contexts and ids, when one begins, ends or changes; and the place of one.
 use Rattle.std.proofs.Common.{◌≡◌, refl, ap, sym, ◌∙◌, List, [], ◌∷◌, ◌++◌, ℕ, suc, ◌+◌, Bool, true, false, cond, arith, Option, Some, None, map, ◌<◌, length, slice_index_or}
 use Rattle.std.specs.Prelude.{not, find, is_some, nat_lt, ◌||◌, ◌&&◌, ◌==◌}
 use Rattle.std.specs.List.{list_any, position, position_or_len}
@@ -37,7 +37,7 @@ pub none_waits : (n : ℕ) (xs : List Live) → list_any (λ (x : Live). x.id ==
 none_waits n [] h = refl
 none_waits n (x ∷ xs) h = let no = both_false (x.id == n) (list_any (λ (x : Live). x.id == n) xs) h in ap (λ b. b || list_any (waits_for n) xs) (ap (λ b. b && is_some x.last_out && not (is_some x.reply)) no.0) ∙ none_waits n xs no.1
 
--- nor where none has the id
+-- none waits where none has the id
 id_away : (n : ℕ) (xs : List Live) → has (map live_id xs) n ≡ false → list_any (waits_for n) xs ≡ false
 id_away n [] h = refl
 id_away n (x ∷ xs) h = let no = both_false (x.id == n) (has (map live_id xs) n) h in ap (λ b. (b && is_some x.last_out && not (is_some x.reply)) || list_any (waits_for n) xs) no.0 ∙ id_away n xs no.1
@@ -56,7 +56,7 @@ other_waits n (y ∷ ys) x h f w = go (y.id == n) refl f (λ q. other_waits n ys
 both_ids : (n : ℕ) (v w : Live) → (v.id == n) ≡ true → (w.id == n) ≡ true → v.id ≡ w.id
 both_ids n v w e f = equal_of v.id n e ∙ sym (equal_of w.id n f)
 
--- the same, where it is looked at at its spot
+-- the same, where it is looked up at its spot
 pub waits_nowhere : (n : ℕ) (ss : List (Spot Live)) (i : ℕ) (d : Spot Live) → AreDistinct (map live_id (held ss)) → i < length ss → holds (λ (v : Live). v.id == n) (slice_index_or ss i d) ≡ true → holds (waits_for n) (slice_index_or ss i d) ≡ false → None ≡ position (holds (waits_for n)) ss
 waits_nowhere n ss i d h l t w =
     let found : find (λ (v : Live). v.id == n) (held ss) ≡ (slice_index_or ss i d).value = found_there (λ (v : Live). v.id == n) ss i d (sym (at_spot live_id ss i d (λ (v : Live). v.id == n) h l t (both_ids n))) in
@@ -117,7 +117,7 @@ found_same P f cs ids xs ys s t h e =
 
 -- ---- Whether one stands there
 
--- one passes if there is a first that does
+-- one passes if there is a first one that passes
 pub placed : {A : Type 0} (P : A → Bool) (xs : List A) → is_some (position P xs) ≡ list_any P xs
 placed {A = A} P xs = bare (nat_lt (position_or_len P xs) (length xs)) (position_or_len P xs) ∙ go xs
   where

@@ -1,4 +1,4 @@
--- What a req's requests become when one goes out, or a reply comes.
+-- The requests of a req after one goes out, or a reply comes.
 use Rattle.std.proofs.Common.{◌≡◌, refl, ap, sym, ◌∙◌, subst, List, [], ◌∷◌, ◌++◌, ℕ, ◌^◌, ◌<◌, Bool, true, false, cond, Option, Some, None, map, drop, take, length}
 use Rattle.std.specs.Prelude.{find, not, is_some, nat_lt, ◌&&◌, ◌||◌, ◌==◌}
 use Rattle.std.specs.Option.{option_map}
@@ -108,7 +108,7 @@ module _ (c now p : ℕ) where
       go false e f again =
           rw (bytes_differ y.id x.id y.copy.body x.copy.body (small xs s.3 f) s.1 (other_id xs f i.0)) (ap (λ (rest : List LiveRequest). request_of x ∷ rest) (again f))
 
-  -- where each context has one, it alone changes
+  -- where each context has one, only that one changes
   pub out_alone : (xs : List Live) → AreDistinct (map live_ctx xs) → with_found (is_live_on c) (sent_at gone) xs ≡ map (with_out_on c gone) xs
   out_alone [] d = refl
   out_alone (x ∷ xs) d = go (x.ctx == c) refl (out_alone xs d.1)
@@ -181,7 +181,7 @@ module _ (id : ℕ) (k : KeptReply) where
       go false o e r again = (s.0, s.1, s.2, again)
 
   module _ (z : Setting) (before : List Entry) (p : ℕ) (b : List ℕ) where
-    -- what a frame makes of one request, as the machine sees it
+    -- what a frame does to one request, as the machine sees it
     frame_one : z.role ≡ role.Req → malformed z before p b ≡ false → first_word b ≡ Some id → item_of k ≡ plain_item p (drop 4 b) → (x : Live) → (w : Bool) → waits_for id x ≡ w → with_frame z before p b (request_of x) ≡ cond w (request_of (with_kept k x)) (request_of x)
     frame_one r m f i x w e =
         ap (λ q. cond (not q && is_for b (request_of x) && has_room z (request_of x)) (record (request_of x) { replies = items_of x.reply ++ plain_item p (drop 4 b) ∷ [] }) (request_of x)) m

@@ -1,4 +1,4 @@
--- What becomes of the live requests of a req.
+-- Changes of the live requests of a req.
 use Rattle.std.proofs.Common.{◌≡◌, refl, ap, sym, ◌∙◌, subst, List, [], ◌∷◌, ◌++◌, ℕ, ◌^◌, ◌<◌, Bool, true, false, cond, arith, Some, None, map}
 use Rattle.std.specs.Prelude.{find, filter, not, ◌||◌, ◌==◌}
 use Rattle.std.specs.Option.{option_map}
@@ -11,7 +11,7 @@ use Rattle.proto_live_requests.specs.declared.live.Live.{Live}
 use Rattle.proto_live_requests.specs.LiveRequests.{request_of, live_ctx, is_live_on, without_live, AreSound}
 use Rattle.proto_requests.proofs.TestValues.{equal_of, same_number, turned}
 
--- ---- One less
+-- ---- One fewer
 
 others_stay : (c : ℕ) (xs : List Live) → has (map live_ctx xs) c ≡ false → map request_of xs ≡ filter (λ r. not (has (c ∷ []) r.ctx)) (map request_of xs)
 others_stay c [] h = refl
@@ -151,7 +151,7 @@ found_ctx c (y ∷ xs) x h = go (y.ctx == c) refl h (found_ctx c xs x)
     go true e h again = ap live_ctx (sym (its h)) ∙ equal_of y.ctx c e
     go false e h again = again h
 
--- the live request of a context by the history
+-- the live request of a context according to the history
 pub find_request : (c : ℕ) (xs : List Live) → find (is_on c) (map request_of xs) ≡ option_map request_of (find (is_live_on c) xs)
 find_request c [] = refl
 find_request c (x ∷ xs) = go (x.ctx == c) (find_request c xs)

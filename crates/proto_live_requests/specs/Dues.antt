@@ -1,4 +1,4 @@
--- Which live requests are looked at when they are due.
+-- The live requests that are looked at when they are due.
 use Rattle.std.specs.Prelude.{◌≡◌, ◌⊎◌, ◌+◌, ℕ, ◌==◌, ◌&&◌, ◌||◌, nat_le, Bool, true, false, not, if◌then◌else◌, List, Option, Some, None, is_some}
 use Rattle.std.specs.List.{list_any}
 use Rattle.sp_history.specs.declared.parts.LastOut.{LastOut}
@@ -13,8 +13,8 @@ pub record DuesView : Type 0 where
   pub dry : HintsView ℕ
   pub outs : HintsView SentOut
 
--- its pipe came up, and the context is looked at: if it is late, before the next request goes out again, or after the
--- tick where it is dry; else when it is late
+-- its pipe came up, and the context is looked at: if the request is late, before the next request goes out again, or
+-- after the tick where the context is dry; otherwise once it is late
 abbrev pub is_seen : DuesView → (LastOut → Bool) → (ℕ → Bool) → ℕ → ℕ → LastOut → Bool
 is_seen v late dry last c o = nat_le o.pipe last && (if late o then dry c || covers v.due c else covers_by v.outs (is_sent c o))
 
@@ -30,7 +30,7 @@ is_unseen v late dry last x = not (is_some x.reply) && is_unseen_out v late dry 
 abbrev pub AreSeen : DuesView → (LastOut → Bool) → (ℕ → Bool) → ℕ → List Live → Type 0
 AreSeen v late dry last xs = (list_any (is_unseen v late dry last) xs ≡ false) × ((q : ℕ) → dry q ≡ true → covers v.dry q ≡ true)
 
--- that stays so
+-- this stays true
 abbrev pub StaySeen : DuesView → DuesView → List Live → Type 0
 StaySeen old new xs = (late : LastOut → Bool) (dry : ℕ → Bool) (last : ℕ) → AreSeen old late dry last xs → AreSeen new late dry last xs
 
@@ -39,12 +39,12 @@ abbrev pub awaited : Option Live → Option LastOut
 awaited None = None
 awaited (Some x) = if is_some x.reply then None else x.last_out
 
--- it went out so
+-- it went out like this
 abbrev pub is_at : SentOut → Option LastOut → Bool
 is_at e None = false
 is_at e (Some o) = (e.pipe == o.pipe) && (e.when == o.when)
 
--- it is of the context, and waits for a reply since it went out so
+-- it belongs to the context, and waits for a reply since it went out like this
 abbrev pub waits_so : ℕ → LastOut → Live → Bool
 waits_so c o x = (x.ctx == c) && is_at (record { ctx = c; pipe = o.pipe; when = o.when }) (awaited (Some x))
 
@@ -52,11 +52,11 @@ waits_so c o x = (x.ctx == c) && is_at (record { ctx = c; pipe = o.pipe; when = 
 abbrev pub StayLate : (LastOut → Bool) → (LastOut → Bool) → Type 0
 StayLate late later = (o : LastOut) → late o ≡ true → later o ≡ true
 
--- so long ago is it, or longer
+-- it went out at least `resend` milliseconds ago
 abbrev pub is_past : ℕ → ℕ → LastOut → Bool
 is_past resend now o = nat_le (o.when + resend) now
 
--- late now is what was, and that of which this is true
+-- what is late now is what was late, and that for which this is true
 abbrev pub IsLater : (LastOut → Bool) → (LastOut → Bool) → (LastOut → Type 0) → Type 0
 IsLater late later T = StayLate late later × ((o : LastOut) → later o ≡ true → (late o ≡ true) ⊎ T o) × ((o : LastOut) → T o → later o ≡ true)
 
@@ -64,6 +64,6 @@ IsLater late later T = StayLate late later × ((o : LastOut) → later o ≡ tru
 abbrev pub NotesDry : DuesView → DuesView → ℕ → Type 0
 NotesDry old new c = (late : LastOut → Bool) (dry now : ℕ → Bool) (last : ℕ) (xs : List Live) → ((q : ℕ) → (q == c) ≡ false → now q ≡ dry q) → (dry c ≡ true → now c ≡ true) → AreSeen old late dry last xs → AreSeen new late now last xs
 
--- of what is so, each that is among these is looked at
+-- of those for which this is true, each that is among these is looked at
 abbrev pub LookAtAll : (LastOut → Bool) → List SentOut → HintsView ℕ → Type 0
 LookAtAll so es due = (c : ℕ) (o : LastOut) → so o ≡ true → list_any (is_sent c o) es ≡ true → covers due c ≡ true

@@ -1,4 +1,4 @@
--- What the live requests and the open contexts of a req are, and what becomes of them.
+-- The live requests and the open contexts of a req, and their changes.
 use Rattle.std.specs.Prelude.{◌≡◌, ◌<◌, ◌^◌, ◌==◌, ◌&&◌, ◌||◌, ℕ, Bool, true, false, not, ⊤, nat_le, if◌then◌else◌, List, [], ◌∷◌, map, find, Option, Some, None, is_some}
 use Rattle.std.specs.List.{list_any}
 use Rattle.sp_msg.specs.Views.{MessageView}
@@ -21,7 +21,7 @@ use Rattle.proto_requests.specs.FirstFound.{without_found, with_found}
 abbrev pub context_number : ReqContextView → ℕ
 context_number s = s.ctx
 
--- a copy for the context found no memory
+-- there was no memory for a copy for the context
 abbrev pub dry_at : ℕ → List ReqContextView → Bool
 dry_at c xs = list_any (λ (s : ReqContextView). (s.ctx == c) && s.is_dry) xs
 
@@ -77,11 +77,11 @@ with_kept k x = record { ctx = x.ctx; id = x.id; copy = x.copy; birth = x.birth;
 abbrev pub with_reply : ℕ → KeptReply → List Live → List Live
 with_reply id k xs = with_found (waits_for id) (with_kept k) xs
 
--- it went out so
+-- it went out like this
 abbrev pub sent_at : LastOut → Live → Live
 sent_at o x = record { ctx = x.ctx; id = x.id; copy = x.copy; birth = x.birth; last_out = Some o; reply = x.reply }
 
--- with the request of the context sent out so
+-- the request of the context went out like this
 abbrev pub with_out : ℕ → LastOut → List Live → List Live
 with_out c o xs = with_found (is_live_on c) (sent_at o) xs
 
@@ -89,7 +89,7 @@ with_out c o xs = with_found (is_live_on c) (sent_at o) xs
 abbrev pub out_of : List Live → ℕ → Option LastOut
 out_of xs c = awaited (find (is_live_on c) xs)
 
--- no two are of one context
+-- no two requests are of one context
 abbrev pub OnePerContext : List Live → Type 0
 OnePerContext xs = AreDistinct (map live_ctx xs)
 
@@ -107,11 +107,11 @@ AreSound (x ∷ xs) = (x.copy.header ≡ []) × (x.id < 2 ^ 32) × (x.last_out �
 
 -- ---- Live requests that are looked at
 
--- its request waits for a reply since it went out so
+-- its request waits for a reply since it went out like this
 abbrev pub is_awaited : List Live → SentOut → Bool
 is_awaited xs e = is_at e (out_of xs e.ctx)
 
--- what waits for a reply since it went out so is still among them
+-- what waits for a reply since it went out like this is still among them
 abbrev pub KeepAwaited : List Live → HintsView SentOut → HintsView SentOut → Type 0
 KeepAwaited xs old new = (c : ℕ) (o : LastOut) → out_of xs c ≡ Some o → covers_by old (is_sent c o) ≡ true → covers_by new (is_sent c o) ≡ true
 
@@ -128,6 +128,6 @@ LookAtPast past xs outs due = (c : ℕ) (o : LastOut) → outs.whole ≡ true �
 abbrev pub SeeLater : DuesView → DuesView → (LastOut → Type 0) → ((ℕ → Bool) → ℕ → Bool) → List Live → Type 0
 SeeLater old new T next xs = OnePerContext xs → (late later : LastOut → Bool) (dry : ℕ → Bool) (last : ℕ) → IsLater late later T → AreSeen old late dry last xs → AreSeen new later (next dry) last xs
 
--- the request of the context goes out so, and is looked at when it is due
+-- the request of the context goes out like this, and is looked at when it is due
 abbrev pub NotesOut : DuesView → DuesView → List Live → ℕ → LastOut → Type 0
 NotesOut old new xs c o = (late : LastOut → Bool) (dry : ℕ → Bool) (last : ℕ) → late o ≡ false → nat_le o.pipe last ≡ true → AreSeen old late dry last xs → AreSeen new late dry last (with_out c o xs)

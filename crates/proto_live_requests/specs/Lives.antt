@@ -6,7 +6,7 @@ use Rattle.proto_requests.specs.Spots.{held}
 use Rattle.proto_requests.specs.declared.spots.Spot.{Spot}
 use Rattle.proto_live_requests.specs.declared.live.Live.{Live}
 
--- the live requests, in the order of their begins, and how many more have room
+-- the live requests, in the order of their begins, and how many more there is room for
 pub record LivesView : Type 0 where
   pub items : List Live
   pub room : ℕ
@@ -16,7 +16,7 @@ pub record AreFound (cs : List (ℕ × ℕ)) (ids : List (ℕ × ℕ)) (xs : Lis
   pub by_ctx : IsIndexed (λ (x : Live). x.ctx) (is_known cs) xs
   pub by_id : IsIndexed (λ (x : Live). x.id) (is_known ids) xs
 
--- so it is, if it is said
+-- the same, where the flag says so
 abbrev pub AreIndexed : Bool → List (ℕ × ℕ) → List (ℕ × ℕ) → List Live → Type 0
 AreIndexed indexed cs ids xs = indexed ≡ true → AreFound cs ids xs
 
@@ -25,7 +25,7 @@ abbrev pub is_answered : Option Live → Bool
 is_answered None = false
 is_answered (Some x) = is_some x.reply
 
--- they are known by their contexts and ids, if it is said, and so many are live
+-- they are known by their contexts and ids, where the flag says so, and this is the number of live requests
 pub record AreKept (indexed : Bool) (cs ids : List (ℕ × ℕ)) (alive : ℕ) (ss : List (Spot Live)) : Type 0 where
   pub by_number : AreIndexed indexed cs ids (held ss)
   pub number : alive ≡ length (held ss)

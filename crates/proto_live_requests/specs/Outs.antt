@@ -5,7 +5,7 @@ use Rattle.sp_history.specs.declared.parts.LastOut.{LastOut}
 use Rattle.proto_requests.specs.Hints.{HintsView, covers_by}
 use Rattle.proto_live_requests.specs.declared.outs.SentOut.{SentOut}
 
--- it went out so for the context
+-- it went out like this for the context
 abbrev pub is_sent : ℕ → LastOut → SentOut → Bool
 is_sent c o e = (e.ctx == c) && ((e.pipe == o.pipe) && (e.when == o.when))
 
@@ -13,27 +13,27 @@ is_sent c o e = (e.ctx == c) && ((e.pipe == o.pipe) && (e.when == o.when))
 abbrev pub out_in : SentOut → LastOut
 out_in e = record { pipe = e.pipe; when = e.when }
 
--- the two are alike
+-- the two are the same
 abbrev pub is_entry : SentOut → SentOut → Bool
 is_entry e f = is_sent e.ctx (out_in e) f
 
--- when, on which pipe and for which context, as it stands in the order of time
+-- when, on which pipe and for which context, as in the order of time
 abbrev pub timed : ℕ × ℕ × ℕ → SentOut
 timed k = record { ctx = k.2; pipe = k.1; when = k.0 }
 
--- on which pipe, for which context and when, as it stands by the pipes
+-- on which pipe, for which context and when, as in the order of pipes
 abbrev pub piped : ℕ × ℕ × ℕ → SentOut
 piped k = record { ctx = k.1; pipe = k.0; when = k.2 }
 
--- the same went out by the one and by the other
+-- both sets have the same entries
 abbrev pub AreSame : List SentOut → List SentOut → Type 0
 AreSame xs ys = (c : ℕ) (o : LastOut) → list_any (is_sent c o) xs ≡ list_any (is_sent c o) ys
 
--- the entry is among them now, or is not, and of all others the same are
+-- the entry is now among them, or is not, and the others are the same
 abbrev pub IsSet : Bool → SentOut → List SentOut → List SentOut → Type 0
 IsSet is_in e old new = (c : ℕ) (o : LastOut) → list_any (is_sent c o) new ≡ (if is_sent c o e then is_in else list_any (is_sent c o) old)
 
--- one that went out on the pipe for the context is gone, and no other
+-- one that went out on the pipe for the context is gone, and no other one
 pub record IsOneLess (p c : ℕ) (old new : List SentOut) : Type 0 where
   pub gone : SentOut
   pub on : gone.pipe ≡ p
@@ -57,6 +57,6 @@ AreFrom p q es = (p ≤ q) × ((c : ℕ) (o : LastOut) → p ≤ o.pipe → list
 abbrev pub StaySent : HintsView SentOut → HintsView SentOut → Type 0
 StaySent old new = (c : ℕ) (o : LastOut) → covers_by old (is_sent c o) ≡ true → covers_by new (is_sent c o) ≡ true
 
--- of what is not so, each is still among them
+-- each for which this isn't true is still among them
 abbrev pub KeepOthers : (LastOut → Bool) → HintsView SentOut → HintsView SentOut → Type 0
 KeepOthers so old new = (c : ℕ) (o : LastOut) → so o ≡ false → covers_by old (is_sent c o) ≡ true → covers_by new (is_sent c o) ≡ true

@@ -1,18 +1,18 @@
 -- The open contexts of a req.
 use Rattle.std.specs.Prelude.{◌≤◌, ℕ, ◌==◌, Bool, ⊤, List, [], ◌∷◌}
 
--- an open context, and whether a copy of a request of it found no memory since the last tick
+-- an open context, and whether there was no memory for a copy of its request since the last tick
 pub record ReqContextView : Type 0 where
   pub ctx : ℕ
   pub is_dry : Bool
 
--- in the order of their contexts' numbers
+-- the open contexts, in the order of their numbers
 pub record ReqContextsView : Type 0 where
   pub items : List ReqContextView
 
 -- ---- As they are held: by its number, the tick in which each was last dry, or 0
 
--- as it is in this tick
+-- the context in this tick
 abbrev pub context_in : ℕ → ℕ × ℕ → ReqContextView
 context_in tick e = record { ctx = e.0; is_dry = e.1 == tick }
 

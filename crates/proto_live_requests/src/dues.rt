@@ -1,18 +1,19 @@
-//! Which live requests are looked at because they may be due.
+//! The live requests that are looked at because they may be due.
 //!
 //! What went out is found in the order of its time and by its pipe (`outs`), so a tick and a pipe that goes down take
 //! out only what they look at. Once its time has come, or its pipe is down, its context is looked at before the next
-//! request goes out again. A context for which a copy found no memory is looked at again after the next tick. What is
-//! left of requests that ended is dropped by a pass over all that went out, once these are some twice the live requests
-//! and more; after it they are no more than those. The contexts that may be due give way to those of all live requests,
-//! once they are more than some twice the spots of these (`lives`), so that a pass over the spots costs no more than
-//! what it drops.
+//! request goes out again. A context for which there was no memory for a copy is looked at again after the next tick.
+//! What is left of requests that ended is dropped by a pass over all that went out, once there are about twice as many
+//! entries as live requests; afterwards there are no more entries than live requests. The contexts that may be due are
+//! replaced by those of all live requests once there are more of them than about twice the spots of the live requests
+//! (`lives`), so that a pass over the spots costs no more than what it drops.
 //!
-//! Where there is no memory to note what goes out, all of it is forgotten, and the next begin of a send notes it anew:
-//! an entry for each live request that waits for a reply. If it finds no memory, as many begins go by before the next
-//! try as there are spots of live requests, so that a begin pays for one of them on the whole. Until one succeeds, a
-//! tick and a pipe that goes down have all live requests looked at, each of them once. Where the contexts that may be
-//! due are not known, since there was no room for one, a begin lists those of all live requests.
+//! Where there is no memory to record what goes out, all of it is forgotten, and the next begin of a send records it
+//! again: an entry for each live request that waits for a reply. If there is no memory for this either, the next try
+//! comes only after as many begins as there are spots of live requests, so that a begin pays for one of them on
+//! average. Until one succeeds, a tick and a pipe that goes down have all live requests looked at, each of them once.
+//! Where the contexts that may be due are not known, since there was no room for one, a begin lists those of all live
+//! requests.
 ghost use Rattle.std.specs.Prelude.{◌≡◌, ◌==◌, ◌+◌, ℕ, List, [], Some, true, false, nat_le, drop};
 ghost use Rattle.std.specs.List.{list_any};
 ghost use Rattle.sp_history.specs.Lists.{head_of};
@@ -42,7 +43,7 @@ pub struct Dues {
     dry: Hints<u32>,
     /// What went out.
     outs: Outs,
-    /// So many begins go by before what went out is noted anew.
+    /// How many begins pass before what went out is recorded again.
     pause: usize,
 }
 
@@ -54,7 +55,7 @@ impl Model for Dues {
     ghost view = { λ m. record { due = m.due; dry = m.dry; outs = m.outs } };
 }
 
-/// So long ago is it, or longer.
+/// Returns whether it went out at least `resend` milliseconds ago.
 pub fn is_past(when: Tick, now: Tick, resend: u64) -> bool
     ensures { result ≡ nat_le (when + resend) now }
 {
@@ -63,7 +64,7 @@ pub fn is_past(when: Tick, now: Tick, resend: u64) -> bool
 
 // ---- What went out
 
-// What waits for no reply is dropped, if it is more than so many.
+// Drops what waits for no reply, if there are more than `many` entries.
 fn shorten(outs: &mut Outs, live: &Lives, many: usize)
     ensures { KeepAwaited live.now.items outs.old outs.new }
 {
@@ -72,7 +73,7 @@ fn shorten(outs: &mut Outs, live: &Lives, many: usize)
     }
 }
 
-// The request that stands there is noted, if it waits for a reply.
+// Records the request at this spot, if it waits for a reply.
 fn note_spot(outs: &mut Outs, s: &Spot<Live>)
     ensures it { (c : ℕ) (o : LastOutType) → holds (waits_so c o) s.now ≡ true → covers_by outs.new (is_sent c o) ≡ true }
     ensures more { StaySent outs.old outs.new }
@@ -90,7 +91,7 @@ fn note_spot(outs: &mut Outs, s: &Spot<Live>)
     }
 }
 
-// Those that stand there are noted, if they wait for a reply.
+// Records the requests at these spots that wait for a reply.
 fn note_spots(outs: &mut Outs, list: &[Spot<Live>])
     ensures { (c : ℕ) (o : LastOutType) → list_any (holds (waits_so c o)) list.now ≡ true → covers_by outs.new (is_sent c o) ≡ true }
 {
@@ -99,7 +100,7 @@ fn note_spots(outs: &mut Outs, list: &[Spot<Live>])
     }
 }
 
-// What waits for a reply is noted, in place of what was before.
+// Records what waits for a reply, in place of what was recorded before.
 fn note_live(outs: &mut Outs, live: &Lives)
     ensures { (c : ℕ) (o : LastOutType) → out_of live.now.items c ≡ Some o → covers_by outs.new (is_sent c o) ≡ true }
 {
@@ -107,8 +108,8 @@ fn note_live(outs: &mut Outs, live: &Lives)
     note_spots(outs, live.spots());
 }
 
-// So it is where not all that went out is known. Where that finds no memory, as many begins go by before the next try
-// as there are spots.
+// The same, where not all that went out is known. Where there is no memory for it, as many begins pass before the next
+// try as there are spots.
 fn renew(outs: &mut Outs, pause: &mut usize, live: &Lives)
     ensures { KeepAwaited live.now.items outs.old outs.new }
 {
@@ -127,7 +128,7 @@ fn renew(outs: &mut Outs, pause: &mut usize, live: &Lives)
 
 // ---- Contexts that are looked at
 
-// All are looked at, if they are more than so many.
+// Makes all contexts looked at, if there are more than `many`.
 fn limit(contexts: &mut Hints<u32>, many: usize)
     ensures { StayAmong contexts.old contexts.new }
 {
@@ -136,7 +137,7 @@ fn limit(contexts: &mut Hints<u32>, many: usize)
     }
 }
 
-// The request that stands there is looked at.
+// Makes the request at this spot looked at.
 fn look_at_spot(due: &mut Hints<u32>, s: &Spot<Live>)
     ensures it { (q : ℕ) → holds (is_live_on q) s.now ≡ true → covers due.new q ≡ true }
     ensures more { StayAmong due.old due.new }
@@ -147,7 +148,7 @@ fn look_at_spot(due: &mut Hints<u32>, s: &Spot<Live>)
     }
 }
 
-// Those that stand there are looked at.
+// Makes the requests at these spots looked at.
 fn look_at_spots(due: &mut Hints<u32>, list: &[Spot<Live>])
     ensures { (q : ℕ) → list_any (holds (is_live_on q)) list.now ≡ true → covers due.new q ≡ true }
 {
@@ -156,7 +157,7 @@ fn look_at_spots(due: &mut Hints<u32>, list: &[Spot<Live>])
     }
 }
 
-// Those of all live requests are looked at, in place of those before. There is room for them.
+// Makes the contexts of all live requests looked at, in place of the earlier ones. There is room for them.
 fn look_at_live(due: &mut Hints<u32>, live: &Lives)
     ensures { (q : ℕ) → list_any (is_live_on q) live.now.items ≡ true → covers due.new q ≡ true }
 {
@@ -164,7 +165,7 @@ fn look_at_live(due: &mut Hints<u32>, live: &Lives)
     look_at_spots(due, live.spots());
 }
 
-// So it is where all are looked at, or more than some twice the spots of the live requests.
+// The same, where all are looked at, or more than about twice the spots of the live requests.
 fn refill(due: &mut Hints<u32>, live: &Lives)
     ensures { StayAmongLive live.now.items due.old due.new }
 {
@@ -173,7 +174,7 @@ fn refill(due: &mut Hints<u32>, live: &Lives)
     }
 }
 
-// So it is where not all that went out is known.
+// The same, where not all that went out is known.
 fn look_at_all(due: &mut Hints<u32>, live: &Lives, known: bool)
     ensures all { known ≡ false → (q : ℕ) → list_any (is_live_on q) live.now.items ≡ true → covers due.new q ≡ true }
     ensures more { StayAmongLive live.now.items due.old due.new }
@@ -183,7 +184,7 @@ fn look_at_all(due: &mut Hints<u32>, live: &Lives, known: bool)
     }
 }
 
-// The context is looked at, if its request waits for a reply since it went out so.
+// Makes the context looked at, if its request waits for a reply since it went out like this.
 fn look_if_awaited(due: &mut Hints<u32>, live: &Lives, e: &SentOut)
     ensures it { is_awaited live.now.items e.now ≡ true → covers due.new e.now.ctx ≡ true }
     ensures more { StayAmong due.old due.new }
@@ -193,7 +194,7 @@ fn look_if_awaited(due: &mut Hints<u32>, live: &Lives, e: &SentOut)
     }
 }
 
-// Those whose time has come are looked at.
+// Makes the contexts looked at whose time has come.
 fn look_at_late(outs: &mut Outs, due: &mut Hints<u32>, live: &Lives, now: Tick, resend: u64)
     ensures whole { outs.new.whole ≡ outs.old.whole }
     ensures kept { KeepOthers (is_past resend now) outs.old outs.new }
@@ -209,7 +210,7 @@ fn look_at_late(outs: &mut Outs, due: &mut Hints<u32>, live: &Lives, now: Tick, 
     }
 }
 
-// Those that went out on the pipe are looked at.
+// Makes the contexts looked at whose requests went out on the pipe.
 fn look_at_down(outs: &mut Outs, due: &mut Hints<u32>, p: PipeId)
     ensures whole { outs.new.whole ≡ outs.old.whole }
     ensures kept { KeepOthers (λ o. o.pipe == p) outs.old outs.new }
@@ -221,7 +222,7 @@ fn look_at_down(outs: &mut Outs, due: &mut Hints<u32>, p: PipeId)
     }
 }
 
-// Takes the room to look at so many more, and at all that went out.
+// Makes room to look at `more` more contexts, and at all that went out.
 fn make_room(
     due: &mut Hints<u32>,
     dry: &mut Hints<u32>,
@@ -236,7 +237,7 @@ fn make_room(
 }
 
 impl Dues {
-    /// Nothing went out.
+    /// Before anything went out.
     pub fn new(alloc: Global) -> Dues {
         Dues {
             due: Hints::new(alloc),
@@ -246,7 +247,7 @@ impl Dues {
         }
     }
 
-    /// Takes the room for one live request more. Where not all that went out is known, it tries to note it anew.
+    /// Makes room for one more live request. Where not all that went out is known, tries to record it again.
     pub fn reserve(&mut self, live: &Lives) -> Result<(), NoMemory>
         ensures { OnePerContext live.now.items → StaySeen self.old self.new live.now.items }
     {
@@ -258,29 +259,29 @@ impl Dues {
         make_room(&mut self.due, &mut self.dry, &self.outs, more)
     }
 
-    /// Drops what is left of requests that ended, where it comes to more than the live ones. Takes no memory.
+    /// Drops what is left of requests that ended, where there is more of it than live requests. Takes no memory.
     pub fn shorten(&mut self, live: &Lives)
         ensures { OnePerContext live.now.items → StaySeen self.old self.new live.now.items }
     {
         shorten(&mut self.outs, live, live.len());
     }
 
-    /// The request of the context goes out. Where there is no memory to note it, all live requests are looked at later,
-    /// until a begin notes what went out anew.
+    /// Records that the request of the context goes out. Where there is no memory for this, all live requests are
+    /// looked at later, until a begin records again what went out.
     pub fn note_out(&mut self, c: Ctx, pipe: PipeId, when: Tick)
         ensures { (xs : List LiveType) → NotesOut self.old self.new xs c (record { pipe = pipe; when = when }) }
     {
         self.outs.add(SentOut { ctx: c, pipe, when });
     }
 
-    /// A copy for the context finds no memory.
+    /// Records that there is no memory for a copy for the context.
     pub fn note_dry(&mut self, c: Ctx)
         ensures { NotesDry self.old self.new c }
     {
         self.dry.add(c.0);
     }
 
-    /// A tick: what is late by it is looked at, and no context is dry any more.
+    /// Records a tick: what has become late is looked at, and no context is dry any more.
     pub fn tick(&mut self, live: &Lives, now: Tick, resend: u64)
         ensures { SeeLater self.old self.new (λ o. is_past resend now o ≡ true) (λ dry q. false) live.now.items }
     {
@@ -289,7 +290,7 @@ impl Dues {
         look_at_all(&mut self.due, live, self.outs.is_whole());
     }
 
-    /// The pipe is down: what went out on it is looked at.
+    /// Records that the pipe is down: what went out on it is looked at.
     pub fn down(&mut self, live: &Lives, p: PipeId)
         ensures { SeeLater self.old self.new (λ o. o.pipe ≡ p) (λ dry. dry) live.now.items }
     {
@@ -297,7 +298,7 @@ impl Dues {
         look_at_down(&mut self.outs, &mut self.due, p);
     }
 
-    /// All that may be due are looked at by their contexts.
+    /// Returns whether the contexts of all that may be due are among those that are looked at.
     pub fn is_whole(&self) -> bool
         ensures { result ≡ self.now.due.whole }
     {
@@ -314,21 +315,21 @@ impl Dues {
         }
     }
 
-    /// It is looked at no more.
+    /// Removes the first context.
     pub fn drop_first(&mut self)
         ensures { self.new ≡ record self.old { due = record { whole = self.old.due.whole; items = drop 1 self.old.due.items } } }
     {
         self.due.drop_first();
     }
 
-    /// None is due.
+    /// Removes all contexts: none is due.
     pub fn clear_due(&mut self)
         ensures { self.new ≡ record self.old { due = record { whole = true; items = [] } } }
     {
         self.due.clear();
     }
 
-    /// None is live any more.
+    /// Removes all: no request is live any more.
     pub fn clear(&mut self)
         ensures { self.new.dry ≡ self.old.dry }
     {

@@ -24,7 +24,7 @@ impl FromPipe for KeptReply {
 pub struct Live {
     pub ctx: Ctx,
     pub id: u32,
-    /// What goes out behind the id, with an empty header.
+    /// What goes out after the id, with an empty header.
     pub copy: Message,
     pub birth: Tick,
     pub last_out: Option<LastOut>,

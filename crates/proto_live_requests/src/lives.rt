@@ -1,10 +1,10 @@
-//! The requests that are live.
+//! The live requests.
 //!
-//! They stand in the order of their begins, each at a spot that it leaves behind when it ends, so that none of the
-//! others moves; where no room is left and nothing stands at half of the spots, the others are closed up. By its
-//! context and by its id the number of its spot is known, and by that its spot is found by halving, where it is then
-//! looked at. One that isn't there is not known, either, and whether one waits for a reply is seen at its spot. The
-//! calls here search through them only once a number wasn't kept, which is rare (`Numbers::put` says when).
+//! They are kept in the order of their begins, each at a spot that is empty when it ends, so that none of the others
+//! moves; when no room is left and half of the spots are empty, the others are moved together. A request's context and
+//! its id give the number of its spot, and the spot is found from that by halving and then checked. A request that
+//! isn't there has no number, and whether one waits for a reply is seen at its spot. The calls here search all spots
+//! only once a number wasn't kept, which is rare (`Numbers::put` says when).
 ghost use Rattle.std.specs.Prelude.{◌≡◌, ◌≤◌, ◌<◌, ◌+◌, ◌-◌, ◌==◌, ◌++◌, ◌∷◌, ℕ, Bool, [], Some, None, true, false, if◌then◌else◌, find, map, length, is_some, OnOk, IfSome};
 ghost use Rattle.std.specs.List.{position, list_any};
 ghost use Rattle.std.specs.Option.{option_map};
@@ -26,20 +26,20 @@ use sp_msg::Message;
 use std::alloc::Global;
 use std::marker::Model;
 
-/// The requests (nng_req(7)) that are live.
+/// The live requests (nng_req(7)).
 #[derive(Drop)]
 pub struct Lives {
-    /// In the order of their begins.
+    /// The requests, in the order of their begins.
     list: Vec<Spot<Live>>,
     /// The number of the next spot.
     next: u64,
     /// The numbers of their spots by their contexts.
     by_ctx: Numbers,
-    /// The same by their ids.
+    /// The same, by their ids.
     by_id: Numbers,
-    /// All numbers are known, and no two requests are of one context or have one id.
+    /// Whether all numbers are known, and no two requests are of one context or have one id.
     is_indexed: bool,
-    /// So many are live.
+    /// The number of live requests.
     alive: usize,
 }
 
@@ -58,14 +58,14 @@ impl Model for Lives {
 
 // ---- Spots
 
-// It is of this context.
+// Returns whether it belongs to this context.
 fn is_on(x: &Live, c: Ctx) -> bool
     ensures { result ≡ is_live_on c x.now }
 {
     x.ctx.0 == c.0
 }
 
-// That of the context stands there.
+// Returns whether the request of the context is at this spot.
 fn stands_on(s: &Spot<Live>, c: Ctx) -> bool
     ensures { result ≡ holds (is_live_on c) s.now }
 {
@@ -75,7 +75,7 @@ fn stands_on(s: &Spot<Live>, c: Ctx) -> bool
     }
 }
 
-// One of the context stands there that keeps a reply.
+// Returns whether a request of the context that keeps a reply is at this spot.
 fn replies_on(s: &Spot<Live>, c: Ctx) -> bool
     ensures { result ≡ holds (keeps_reply c) s.now }
 {
@@ -85,7 +85,7 @@ fn replies_on(s: &Spot<Live>, c: Ctx) -> bool
     }
 }
 
-// One with this id stands there.
+// Returns whether a request with this id is at this spot.
 fn has_id(s: &Spot<Live>, id: u32) -> bool
     ensures { result ≡ holds (λ (x : LiveType). x.id == id) s.now }
 {
@@ -95,14 +95,14 @@ fn has_id(s: &Spot<Live>, id: u32) -> bool
     }
 }
 
-// It waits for a reply with this id.
+// Returns whether it waits for a reply with this id.
 fn waits(x: &Live, id: u32) -> bool
     ensures { result ≡ waits_for id x.now }
 {
     x.id == id && x.last_out.is_some() && x.reply.is_none()
 }
 
-// One that waits for it stands there.
+// Returns whether a request that waits for it is at this spot.
 fn waits_at(s: &Spot<Live>, id: u32) -> bool
     ensures { result ≡ holds (waits_for id) s.now }
 {
@@ -112,14 +112,14 @@ fn waits_at(s: &Spot<Live>, id: u32) -> bool
     }
 }
 
-// One of the context that keeps a reply is among them.
+// Returns whether a request of the context that keeps a reply is among them.
 fn any_reply_on(list: &[Spot<Live>], c: Ctx) -> bool
     ensures { result ≡ list_any (holds (keeps_reply c)) list.now }
 {
     list.iter().any(|s| replies_on(s, c))
 }
 
-// One with this id is among them.
+// Returns whether a request with this id is among them.
 fn any_id(list: &[Spot<Live>], id: u32) -> bool
     ensures { result ≡ list_any (holds (λ (x : LiveType). x.id == id)) list.now }
 {
@@ -128,14 +128,14 @@ fn any_id(list: &[Spot<Live>], id: u32) -> bool
 
 // ---- Places
 
-// Where the request of the context stands.
+// The place of the request of the context.
 fn search_ctx(list: &[Spot<Live>], c: Ctx) -> Option<usize>
     ensures { result ≡ position (holds (is_live_on c)) list.now }
 {
     list.iter().position(|s| stands_on(s, c))
 }
 
-// The same, where no other is of the context. It is looked for here first.
+// The same, where no other is of the context. This place is tried first.
 fn place_on(list: &[Spot<Live>], i: usize, c: Ctx) -> Option<usize>
     ensures { AreDistinct (map live_ctx (held list.now)) → result ≡ position (holds (is_live_on c)) list.now }
 {
@@ -160,15 +160,15 @@ fn ctx_place(list: &[Spot<Live>], by_ctx: &Numbers, known: bool, c: Ctx) -> Opti
     }
 }
 
-// Where the request stands that has this id and waits for a reply.
+// The place of the request that has this id and waits for a reply.
 fn search_id(list: &[Spot<Live>], id: u32) -> Option<usize>
     ensures { result ≡ position (holds (waits_for id)) list.now }
 {
     list.iter().position(|s| waits_at(s, id))
 }
 
-// The same, where no other has the id. It is looked for here first: where the one with the id stands here but doesn't
-// wait, none does.
+// The same, where no other has the id. This place is tried first: where the one with the id is here but doesn't wait,
+// none does.
 fn place_of(list: &[Spot<Live>], i: usize, id: u32) -> Option<usize>
     ensures { AreDistinct (map live_id (held list.now)) → result ≡ position (holds (waits_for id)) list.now }
 {
@@ -197,9 +197,9 @@ fn id_place(list: &[Spot<Live>], by_id: &Numbers, known: bool, id: u32) -> Optio
     }
 }
 
-// ---- What stands there
+// ---- What is there
 
-// The id of the one that stands there.
+// The id of the request at this place.
 fn id_at(list: &[Spot<Live>], place: Option<usize>) -> Option<u32>
     ensures { (P : LiveType → Bool) → place ≡ position (holds P) list.now → result ≡ option_map live_id (find P (held list.now)) }
 {
@@ -217,7 +217,7 @@ fn id_at(list: &[Spot<Live>], place: Option<usize>) -> Option<u32>
     }
 }
 
-/// The context of the one that stands there.
+/// The context of the request at this place.
 pub fn ctx_at(list: &[Spot<Live>], place: Option<usize>) -> Option<Ctx>
     ensures { (P : LiveType → Bool) → place ≡ position (holds P) list.now → result ≡ option_map live_ctx (find P (held list.now)) }
 {
@@ -245,7 +245,7 @@ pub fn out_awaited(x: &Live) -> Option<LastOut>
     x.last_out
 }
 
-// The same of the one that stands there.
+// The same for the request at this place.
 fn out_at(list: &[Spot<Live>], place: Option<usize>) -> Option<LastOut>
     ensures { (P : LiveType → Bool) → place ≡ position (holds P) list.now → result ≡ awaited (find P (held list.now)) }
 {
@@ -263,14 +263,14 @@ fn out_at(list: &[Spot<Live>], place: Option<usize>) -> Option<LastOut>
     }
 }
 
-// It keeps a reply.
+// Returns whether it keeps a reply.
 fn is_answered(x: &Live) -> bool
     ensures { result ≡ is_some x.now.reply }
 {
     x.reply.is_some()
 }
 
-// The one that stands there keeps a reply.
+// Returns whether the request at this place keeps a reply.
 fn is_answered_at(list: &[Spot<Live>], place: Option<usize>) -> bool
     ensures { (P : LiveType → Bool) → place ≡ position (holds P) list.now → result ≡ is_answered (find P (held list.now)) }
 {
@@ -288,7 +288,7 @@ fn is_answered_at(list: &[Spot<Live>], place: Option<usize>) -> bool
     }
 }
 
-// The one that stands there goes out.
+// Records that the request at this spot goes out.
 fn send_spot(s: &mut Spot<Live>, out: LastOut)
     ensures { s.new ≡ changed (sent_at out) s.old }
 {
@@ -298,7 +298,7 @@ fn send_spot(s: &mut Spot<Live>, out: LastOut)
     }
 }
 
-// The one that stands there keeps the reply.
+// Stores the reply with the request at this spot.
 fn answer_spot(s: &mut Spot<Live>, kept: KeptReply)
     ensures { s.new ≡ changed (with_kept kept) s.old }
 {
@@ -308,7 +308,7 @@ fn answer_spot(s: &mut Spot<Live>, kept: KeptReply)
     }
 }
 
-// The request of the context, which stands here, goes out.
+// Records that the request of the context, which is here, goes out.
 fn set_out(list: &mut [Spot<Live>], place: Option<usize>, c: Ctx, out: LastOut)
     requires { place ≡ position (holds (is_live_on c)) list.old }
     ensures held { held list.new ≡ with_out c out (held list.old) }
@@ -320,7 +320,7 @@ fn set_out(list: &mut [Spot<Live>], place: Option<usize>, c: Ctx, out: LastOut)
     }
 }
 
-// The one with this id, which stands here, keeps the reply.
+// Stores the reply with the request with this id, which is here.
 fn set_reply(list: &mut [Spot<Live>], place: Option<usize>, id: u32, kept: KeptReply)
     requires { place ≡ position (holds (waits_for id)) list.old }
     ensures held { held list.new ≡ with_reply id kept (held list.old) }
@@ -334,7 +334,7 @@ fn set_reply(list: &mut [Spot<Live>], place: Option<usize>, id: u32, kept: KeptR
 
 // ---- Numbers
 
-// Takes the room for the number of one more.
+// Makes room for the number of one more.
 fn make_room(by_ctx: &mut Numbers, by_id: &mut Numbers) -> Result<(), NoMemory>
     ensures ctx { (q : ℕ) → number_at by_ctx.new q ≡ number_at by_ctx.old q }
     ensures id { (q : ℕ) → number_at by_id.new q ≡ number_at by_id.old q }
@@ -345,8 +345,8 @@ fn make_room(by_ctx: &mut Numbers, by_id: &mut Numbers) -> Result<(), NoMemory>
     by_id.reserve(1)
 }
 
-// Whether all numbers are known, if they were, with that of a new request. Not where one of its context or its id is
-// known.
+// Returns whether all numbers are known, if they were, including that of a new request. False where one of its context
+// or its id is already known.
 fn know(all: bool, by_ctx: &mut Numbers, by_id: &mut Numbers, c: Ctx, id: u32, n: u64) -> bool
     ensures all { result ≡ true → all ≡ true }
     ensures ctx { result ≡ true → (is_known by_ctx.old c ≡ false) × ((q : ℕ) → number_at by_ctx.new q ≡ (if c == q then Some n else number_at by_ctx.old q)) }
@@ -370,7 +370,7 @@ fn know(all: bool, by_ctx: &mut Numbers, by_id: &mut Numbers, c: Ctx, id: u32, n
     }
 }
 
-// The request's number is known no longer.
+// Removes the request's number.
 fn lose(by_ctx: &mut Numbers, by_id: &mut Numbers, c: Ctx, id: u32)
     ensures ctx { (q : ℕ) → number_at by_ctx.new q ≡ (if c == q then None else number_at by_ctx.old q) }
     ensures id { (q : ℕ) → number_at by_id.new q ≡ (if id == q then None else number_at by_id.old q) }
@@ -380,7 +380,7 @@ fn lose(by_ctx: &mut Numbers, by_id: &mut Numbers, c: Ctx, id: u32)
 }
 
 impl Lives {
-    /// None is live.
+    /// No live requests.
     pub fn new(alloc: Global) -> Lives
         ensures items { result.items ≡ [] }
     {
@@ -394,14 +394,14 @@ impl Lives {
         }
     }
 
-    /// How many are live.
+    /// The number of live requests.
     pub fn len(&self) -> usize
         ensures { result ≡ length self.now.items }
     {
         self.alive
     }
 
-    /// The context has one.
+    /// Returns whether the context has a live request.
     pub fn has(&self, c: Ctx) -> bool
         ensures { result ≡ list_any (is_live_on c) self.now.items }
     {
@@ -411,7 +411,7 @@ impl Lives {
         self.by_ctx.has(c.0)
     }
 
-    /// A reply is kept for the context.
+    /// Returns whether a reply is kept for the context.
     pub fn has_reply(&self, c: Ctx) -> bool
         ensures { result ≡ list_any (keeps_reply c) self.now.items }
     {
@@ -424,7 +424,7 @@ impl Lives {
         )
     }
 
-    /// The id of that of the context.
+    /// The id of the request of the context.
     pub fn id_of(&self, c: Ctx) -> Option<u32>
         ensures { result ≡ option_map live_id (find (is_live_on c) self.now.items) }
     {
@@ -434,7 +434,7 @@ impl Lives {
         )
     }
 
-    /// A copy of what goes out again for that of the context. None where there is no memory for it, either.
+    /// A copy of what goes out again for the request of the context. Also `None` where there is no memory for it.
     pub fn copy_of(&self, c: Ctx) -> Option<Message>
         ensures { IfSome result (λ m. (x : LiveType) → find (is_live_on c) self.now.items ≡ Some x → m ≡ x.copy) }
     {
@@ -455,7 +455,7 @@ impl Lives {
         }
     }
 
-    /// One has this id.
+    /// Returns whether a request has this id.
     pub fn is_taken(&self, id: u32) -> bool
         ensures { result ≡ list_any (λ (x : LiveType). x.id == id) self.now.items }
     {
@@ -465,14 +465,14 @@ impl Lives {
         self.by_id.has(id)
     }
 
-    /// The spots, where they stand in the order of their begins.
+    /// The spots, in the order of the begins.
     pub fn spots(&self) -> &[Spot<Live>]
         ensures { held result.now ≡ self.now.items }
     {
         &self.list
     }
 
-    /// How that of the context went out, if it waits for a reply.
+    /// How the request of the context went out, if it waits for a reply.
     pub fn out_of(&self, c: Ctx) -> Option<LastOut>
         ensures { result ≡ out_of self.now.items c }
     {
@@ -482,7 +482,7 @@ impl Lives {
         )
     }
 
-    /// Takes the room for one more.
+    /// Makes room for one more.
     pub fn reserve(&mut self) -> Result<(), NoMemory>
         ensures same { self.new.items ≡ self.old.items }
         ensures room { OnOk result (0 < self.new.room) }
@@ -494,7 +494,7 @@ impl Lives {
         }
     }
 
-    /// One more is live.
+    /// Adds a live request.
     pub fn push(&mut self, x: Live)
         requires { 0 < self.old.room }
         ensures items { self.new.items ≡ self.old.items ++ x ∷ [] }
@@ -515,7 +515,7 @@ impl Lives {
         self.next = self.next.wrapping_add(1);
     }
 
-    /// Takes that of the context out.
+    /// Takes out the request of the context.
     pub fn take_live(&mut self, c: Ctx) -> Option<Live>
         ensures found { result ≡ find (is_live_on c) self.old.items }
         ensures rest { self.new.items ≡ without_live c self.old.items }
@@ -535,7 +535,7 @@ impl Lives {
         }
     }
 
-    /// That of the context goes out.
+    /// Records that the request of the context goes out.
     pub fn note_out(&mut self, c: Ctx, out: LastOut)
         ensures items { self.new.items ≡ with_out c out self.old.items }
     {
@@ -543,7 +543,7 @@ impl Lives {
         set_out(&mut self.list, place, c, out);
     }
 
-    /// Keeps the reply for the one that has this id and waits for one, if there is one. Returns its context.
+    /// Keeps the reply for the request that has this id and waits for a reply, if there is one. Returns its context.
     pub fn keep_reply(&mut self, id: u32, kept: KeptReply) -> Option<Ctx>
         ensures ctx { result ≡ option_map live_ctx (find (waits_for id) self.old.items) }
         ensures items { self.new.items ≡ with_reply id kept self.old.items }
@@ -554,7 +554,7 @@ impl Lives {
         ctx
     }
 
-    /// None is live any more.
+    /// Removes all requests.
     pub fn clear(&mut self)
         ensures items { self.new.items ≡ [] }
     {

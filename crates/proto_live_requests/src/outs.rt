@@ -1,9 +1,9 @@
 //! What went out, in two orders.
 //!
-//! The entries stand in a set in the order of their time, and in another by their pipes. So what went out first, and
-//! what went out on a pipe, is found and taken out by a logarithm of how many there are. Two that are alike are one
-//! entry. Where one finds no memory, the sets are emptied, and nothing is noted until a `clear`; `dues` then notes anew
-//! what waits for a reply.
+//! The entries are in one set in the order of their time, and in another by their pipes. So what went out first, and
+//! what went out on a pipe, is found and taken out in a time logarithmic in their number. Equal entries are one entry.
+//! When out of memory the sets are emptied, and nothing is recorded until a `clear`; `dues` then records again what
+//! waits for a reply.
 ghost use Rattle.std.specs.Prelude.{◌≡◌, [], true, false, drop, length, map, IfNone, IfSome, OnOk};
 ghost use Rattle.std.specs.List.{filter, list_any};
 ghost use Rattle.sp_history.specs.Lists.{head_of};
@@ -17,7 +17,7 @@ use std::alloc::Global;
 use std::collections::BTreeSet;
 use std::marker::Model;
 
-/// On which pipe the request of a context went out, and when (nng_req(7)).
+/// The pipe on which the request of a context went out, and when (nng_req(7)).
 #[derive(Clone, Copy)]
 pub struct SentOut {
     pub ctx: Ctx,
@@ -25,15 +25,15 @@ pub struct SentOut {
     pub when: Tick,
 }
 
-/// What went out. An `add`, a `drop_first` and a `pop_on` cost a logarithm of how many they are. Where an `add` found
-/// no memory, none is among these until a `clear`.
+/// What went out. An `add`, a `drop_first` and a `pop_on` cost a logarithm of the number of entries. After an `add`
+/// that was out of memory there are no entries until a `clear`.
 #[derive(Drop)]
 pub struct Outs {
     /// When, on which pipe and for which context.
     by_time: BTreeSet<(u64, u32, u32)>,
     /// The same: on which pipe, for which context and when.
     by_pipe: BTreeSet<(u32, u32, u64)>,
-    /// They are all among these.
+    /// Whether all entries are here.
     is_whole: bool,
 }
 
@@ -50,7 +50,7 @@ impl Model for Outs {
     ghost invariant = { λ m. AreSame (map timed m.by_time.keys) (map piped m.by_pipe.keys) };
 }
 
-/// The request waits for a reply since it went out so.
+/// Returns whether the request waits for a reply since it went out like this.
 pub fn is_awaited(live: &Lives, e: &SentOut) -> bool
     ensures { result ≡ is_awaited live.now.items e.now }
 {
@@ -94,7 +94,7 @@ fn pipe_key(e: &SentOut) -> (u32, u32, u64)
     (e.pipe.0, e.ctx.0, e.when.0)
 }
 
-// The entry is in both. Out of memory it may be in one.
+// Adds the entry to both sets. Out of memory it may be in one.
 fn put(
     by_time: &mut BTreeSet<(u64, u32, u32)>,
     by_pipe: &mut BTreeSet<(u32, u32, u64)>,
@@ -108,7 +108,7 @@ fn put(
     Ok(())
 }
 
-// The first on the pipe, or on one of a greater number.
+// The first entry on the pipe, or on one with a larger number.
 fn first_from(by_pipe: &BTreeSet<(u32, u32, u64)>, p: u32) -> Option<(u32, u32, u64)>
     ensures member { IfSome result (λ k. list_any (is_entry (piped k)) (map piped by_pipe.now.keys) ≡ true) }
     ensures least { IfSome result (λ k. AreFrom p k.0 (map piped by_pipe.now.keys)) }
@@ -120,7 +120,7 @@ fn first_from(by_pipe: &BTreeSet<(u32, u32, u64)>, p: u32) -> Option<(u32, u32, 
     }
 }
 
-// The first on the pipe.
+// The first entry on the pipe.
 fn first_on(by_pipe: &BTreeSet<(u32, u32, u64)>, p: u32) -> Option<(u32, u32, u64)>
     ensures member { IfSome result (λ k. list_any (is_entry (piped k)) (map piped by_pipe.now.keys) ≡ true) }
     ensures on { IfSome result (λ k. k.0 ≡ p) }
@@ -131,7 +131,7 @@ fn first_on(by_pipe: &BTreeSet<(u32, u32, u64)>, p: u32) -> Option<(u32, u32, u6
 }
 
 impl Outs {
-    /// Nothing went out.
+    /// Before anything went out.
     pub fn new(alloc: Global) -> Outs
         ensures { result ≡ record { whole = true; items = [] } }
     {
@@ -142,22 +142,22 @@ impl Outs {
         }
     }
 
-    /// All that went out is among these.
+    /// Returns whether all that went out is here.
     pub fn is_whole(&self) -> bool
         ensures { result ≡ self.now.whole }
     {
         self.is_whole
     }
 
-    /// How many they are.
+    /// The number of entries.
     pub fn len(&self) -> usize
         ensures { result ≡ length self.now.items }
     {
         self.by_time.len()
     }
 
-    /// One that went out. It takes memory; where there is none, none is among these from then on. Where that was so
-    /// before, nothing is noted.
+    /// Adds one that went out. Takes memory; without memory there are no entries from then on, and nothing is recorded
+    /// any more.
     pub fn add(&mut self, e: SentOut)
         ensures more { covers_by self.new (is_entry e) ≡ true }
         ensures same { StaySent self.old self.new }
@@ -172,7 +172,7 @@ impl Outs {
         }
     }
 
-    /// The first that went out.
+    /// The one that went out first.
     pub fn first(&self) -> Option<SentOut>
         ensures first { result ≡ head_of self.now.items }
         ensures least { IfSome result (λ e. AreSince e.when self.now.items) }
@@ -183,7 +183,7 @@ impl Outs {
         }
     }
 
-    /// Without the first that went out.
+    /// Removes the one that went out first.
     pub fn drop_first(&mut self)
         ensures { self.new ≡ record { whole = self.old.whole; items = drop 1 self.old.items } }
     {
@@ -205,7 +205,7 @@ impl Outs {
         Some(Ctx(ctx))
     }
 
-    /// Only those that wait for a reply stay. It takes no memory.
+    /// Keeps only those that wait for a reply. Takes no memory.
     pub fn keep_awaited(&mut self, live: &Lives)
         ensures whole { self.new.whole ≡ self.old.whole }
         ensures kept { self.new.items ≡ filter (is_awaited live.now.items) self.old.items }
@@ -214,7 +214,7 @@ impl Outs {
         self.by_pipe.retain(|k| is_awaited(live, &piped(k)));
     }
 
-    /// Nothing went out that is worth a look.
+    /// Removes all: nothing that went out needs to be looked at.
     pub fn clear(&mut self)
         ensures { self.new ≡ record { whole = true; items = [] } }
     {

@@ -1,7 +1,7 @@
 //! The open contexts of a req.
 //!
-//! They are found by the contexts' numbers, so that one that is shut moves none of the others. Each has the number of
-//! the tick in which a copy for it found no memory, so that a new tick writes nothing to them.
+//! They are found by the contexts' numbers, so shutting one moves none of the others. Each has the number of the tick
+//! in which there was no memory for a copy for it, so that a new tick writes nothing to them.
 ghost use Rattle.std.specs.Prelude.{◌≡◌, ◌++◌, ◌∷◌, ◌==◌, [], true, false, not, IfOk, OnOk, OnErr, filter, map};
 ghost use Rattle.std.specs.List.{list_any, list_all};
 ghost use Rattle.proto_requests.specs.Ordered.{is_before};
@@ -16,9 +16,9 @@ use std::marker::Model;
 /// The open contexts of a req (nng_ctx(5)).
 #[derive(Drop)]
 pub struct ReqContexts {
-    /// The tick in which a copy of a request of each context last found no memory, or 0, by the contexts' numbers.
+    /// By the contexts' numbers: the tick in which there was last no memory for a copy of the context's request, or 0.
     dry_in: BTreeMap<u32, u64>,
-    /// The number of this tick, from 1 on.
+    /// The number of this tick, from 1.
     tick: u64,
 }
 
@@ -34,7 +34,7 @@ impl Model for ReqContexts {
 }
 
 impl ReqContexts {
-    /// Context 0 alone.
+    /// Only context 0.
     pub fn new(alloc: Global) -> Result<ReqContexts, NoMemory>
         ensures { IfOk result (λ v. v.items ≡ record { ctx = 0; is_dry = false } ∷ []) }
     {
@@ -45,18 +45,18 @@ impl ReqContexts {
         }
     }
 
-    /// The context is open.
+    /// Returns whether the context is open.
     pub fn has(&self, c: Ctx) -> bool
         ensures { result ≡ list_any (λ (s : ReqContextView). s.ctx == c) self.now.items }
     {
         self.dry_in.contains_key(&c.0)
     }
 
-    /// A copy for the context found no memory.
+    /// Returns whether there was no memory for a copy for the context since the last tick.
     pub fn is_dry(&self, c: Ctx) -> bool
         ensures { result ≡ dry_at c self.now.items }
     {
-        // Gives the proof that the keys are in order.
+        // Brings into the proof that the keys are in order.
         let _len = self.dry_in.len();
         match self.dry_in.get(&c.0) {
             None => false,
@@ -64,7 +64,7 @@ impl ReqContexts {
         }
     }
 
-    /// A copy for the context finds no memory.
+    /// Records that there is no memory for a copy for the context.
     pub fn dry(&mut self, c: Ctx)
         ensures { self.new.items ≡ map (dried c) self.old.items }
     {
@@ -75,7 +75,7 @@ impl ReqContexts {
         }
     }
 
-    /// Each may be tried again.
+    /// Makes no context dry: each may be tried again.
     pub fn wet(&mut self)
         ensures { self.new.items ≡ map wetted self.old.items }
     {
@@ -90,7 +90,7 @@ impl ReqContexts {
         self.tick = 1;
     }
 
-    // The number of the context is above those of all that are open.
+    // Returns whether the number of the context is above those of all that are open.
     fn is_above_all(&self, c: Ctx) -> bool
         ensures { list_all (is_before context_number c) self.now.items ≡ true → result ≡ true }
     {
@@ -100,8 +100,8 @@ impl ReqContexts {
         }
     }
 
-    /// The context is open from now on. Its number is above all others; one that isn't is that of no new context. Where
-    /// there is no memory, all is as before.
+    /// Opens the context. Its number is above all others; otherwise it isn't the number of a new context. Out of memory
+    /// nothing changes.
     pub fn open(&mut self, c: Ctx) -> Result<(), NoMemory>
         ensures more { OnOk result (list_all (is_before context_number c) self.old.items ≡ true → self.new.items ≡ self.old.items ++ record { ctx = c; is_dry = false } ∷ []) }
         ensures same { OnErr result (self.new.items ≡ self.old.items) }
@@ -115,11 +115,11 @@ impl ReqContexts {
         }
     }
 
-    /// The context is open no longer.
+    /// Removes the context, which is no longer open.
     pub fn close(&mut self, c: Ctx)
         ensures { self.new.items ≡ filter (λ (s : ReqContextView). not (s.ctx == c)) self.old.items }
     {
-        // Gives the proof that the keys are in order.
+        // Brings into the proof that the keys are in order.
         let _len = self.dry_in.len();
         let _ = self.dry_in.remove(&c.0);
     }

@@ -55,7 +55,7 @@ same_number n = grind (arith, nat_tests)
 -- ---- The pipe
 
 module _ (full : ℕ → Bool) (o : Option PairPort) (us : List ℕ) (h : option_to_list o ≡ map (port_of full) us) where
-  -- where none is known, none is up
+  -- where no pipe is known, none is up
   none_up : o ≡ None → us ≡ []
   none_up e = go us (sym (ap (λ (p : Option PairPort). option_to_list p) e) ∙ h)
     where
@@ -74,7 +74,7 @@ module _ (full : ℕ → Bool) (o : Option PairPort) (us : List ℕ) (h : option
           (ap (λ n. n ∷ []) (sym pipe), ap full pipe ∙ sym (ap (λ (y : PairPort). y.is_full) is))
       go (v ∷ w ∷ vs) q = absurd cc
 
-  -- a pipe that is up is the one that is known
+  -- a pipe that is up is the known one
   the_pipe : (p : ℕ) → has us p ≡ true → (x : PairPort) × (o ≡ Some x) × (x.pipe ≡ p) × (us ≡ p ∷ [])
   the_pipe p up = go o refl
     where
@@ -316,7 +316,7 @@ sent_text m t op p s b text old new h c e is bare =
     some_inj : Some text.body ≡ Some b → text.body ≡ b
     some_inj q = cc
 
--- one that can be sent is a send
+-- an operation that can be sent is a send
 pub the_send : (m : Pair) (t : Moment) (op : OpName) (p : ℕ) (s : Begun) (b : List ℕ) → CanSend t op p s b → (text : RecordedMessage) × (s.act ≡ Send text)
 the_send m t op p s b c = go s.act refl
   where

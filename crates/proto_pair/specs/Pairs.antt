@@ -1,4 +1,4 @@
--- What a pair stands for.
+-- The history that a pair stands for.
 use Rattle.std.specs.Prelude.{◌≡◌, ◌≤◌, ◌<◌, ◌+◌, ℕ, Bool, true, false, if◌then◌else◌, List, [], ◌∷◌, map, filter, option_to_list, Option, Some, None}
 use Rattle.std.specs.Option.{option_map}
 use Rattle.sp_base.specs.declared.OpName.{OpName}
@@ -21,7 +21,7 @@ use Rattle.proto_pair.specs.declared.PairPort.{PairPort}
 abbrev pub pair_kind : Bool → Options → Kind
 pair_kind raw options = record { role = role.Pair0; raw = raw; options = options }
 
--- a pipe that is up, where these pipes are full
+-- a pipe that is up, full or not as the function says
 abbrev pub port_of : (ℕ → Bool) → ℕ → PairPort
 port_of full p = record { pipe = p; is_full = full p }
 
@@ -36,11 +36,11 @@ abbrev pub free : Option PairPort → ℕ
 free None = 0
 free (Some x) = if x.is_full then 0 else 1
 
--- how many sends and receives, and pipes for them, are left to be offered at most
+-- the maximum number of sends and receives, and pipes for them, that are still to be offered
 abbrev pub offers_left : Pair → ℕ
 offers_left m = free m.port + count m.pending
 
--- how many operations more can begin
+-- how many more operations can begin
 abbrev pub places_left : Pair → ℕ
 places_left m = room m.pending
 
@@ -58,8 +58,9 @@ abbrev pub send_offer : Option PairPort → List Begun → Offer
 send_offer None ss = offer.Idle
 send_offer (Some x) ss = if x.is_full then offer.Idle else to_pipe x.pipe (first_name (filter is_send ss))
 
--- The pair is of this kind, knows the pipe that is up, if one is, and whether it is full, keeps these items, and has these
--- operations pending. No pipe has a number above that of the last one that came up, so the next one is not full yet
+-- The pair has this kind, knows the pipe that is up, if one is, and whether it is full, keeps these items, and has
+-- these operations pending. No pipe has a number above that of the last one that came up, so the next one is not full
+-- yet
 pub record Shows (m : Pair) (k : Kind) (us : List ℕ) (last : ℕ) (full : ℕ → Bool) (is : List Item) (ss : List Begun) (cs : List ℕ) : Type 0 where
   pub kind : k ≡ pair_kind m.raw m.options
   pub port : option_to_list m.port ≡ map (port_of full) us

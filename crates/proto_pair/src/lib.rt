@@ -1,14 +1,14 @@
-//! The machine of pair (nng_pair(7)), version 0 of its protocol, cooked and raw, which differ in nothing here.
+//! The machine of pair (nng_pair(7)), version 0 of its protocol, cooked and raw, which are the same here.
 //!
-//! At most one pipe is up. It keeps one message and wants no further frame before a receive got that, so one place
+//! At most one pipe is up. It keeps one message and wants no further frame before a receive has got it, so one place
 //! suffices and it is never out of memory for a frame. What it keeps stays when the pipe goes down. A send goes to the
-//! pipe when that has room, in the order of the begins; its body alone goes out.
+//! pipe when that has room, in the order of the begins; only its body goes out.
 //!
 //! Who owns what: a `Pair` owns the message that is kept and, in its `Pending`, those of the sends that wait. Of its
 //! pipe it knows the number, and whether it was found full in this turn; the wire is the core's.
 //!
-//! It is the smallest machine, so whoever writes one reads it first. `Ties` of `specs/Pairs` says for which moments of
-//! a history a pair stands. Each call of `Proto` below leads from one moment to the next.
+//! It is the smallest machine, so whoever writes one reads it first. `Ties` of `specs/Pairs` says which moments of a
+//! history a pair stands for. Each call of `Proto` below goes from one moment to the next.
 #![tactic(auto)]
 
 ghost use Rattle.std.specs.Prelude.{◌≡◌, ◌≢◌, ◌+◌, ◌<◌, ◌≤◌, ℕ, List, [], Option, IfOk, IfErr, OnOk, OnErr, Err, IsTrue};
@@ -45,12 +45,12 @@ pub struct Pair {
     options: Options,
     /// The pipe that is up, if one is.
     port: Option<PairPort>,
-    /// What came, and no receive got yet.
+    /// A message that came, and that no receive has got yet.
     kept: Option<Message>,
     pending: Pending,
 }
 
-// The pipe, found full or not.
+// The pipe, marked as full or not.
 fn mark(port: Option<PairPort>, is_full: bool) -> Option<PairPort>
     ensures { result ≡ marked is_full port }
 {
@@ -64,7 +64,7 @@ fn mark(port: Option<PairPort>, is_full: bool) -> Option<PairPort>
 }
 
 impl Pair {
-    /// A pair to which nothing has happened.
+    /// A new pair.
     pub fn new(alloc: Global, options: Options, raw: bool) -> Result<Pair, NoMemory>
         ensures { IfOk result (λ m. Starts Ties m (pair_kind raw options)) }
     {
@@ -141,7 +141,7 @@ impl Proto for Pair {
         self.pending.reserve(slots)
     }
 
-    /// It has the place of the pipe, so it is never out of memory for one.
+    /// Never out of memory: there is already a place for the pipe.
     fn up(&mut self, p: PipeId) -> Result<(), UpFault>
         ensures up { OnOk result ((t : Moment) (place : ℕ) (name : WireNumbers) → NoFlood t → Takes (Ties self.old) (Ties self.new) t (Up p place name)) }
         ensures alone { OnOk result ((t : Moment) → Lawful t → Ties self.old t → IsTrue (is_pair t.z.role) → up (past t) ≡ []) }
@@ -170,7 +170,7 @@ impl Proto for Pair {
         self.kept.is_none()
     }
 
-    /// It has the place of the message, so it is never out of memory for a frame.
+    /// Never out of memory: there is already a place for the message.
     fn frame(&mut self, p: PipeId, m: Message) -> Verdict
         requires { m.header ≡ [] }
         ensures kept { (t : Moment) → Lawful (also t (Frame p m.body)) → Ties self.old t → Frames (Ties self.new) result t p m.body }
@@ -195,7 +195,7 @@ impl Proto for Pair {
         Ok(())
     }
 
-    /// It has the place of the operation, so it is never out of memory for one.
+    /// Never out of memory: there is already a place for the operation.
     fn begin(&mut self, op: OpName, c: Ctx, act: Act) -> Result<(), Message>
         requires { 0 < places_left self.old }
         ensures begun { OnOk result ((t : Moment) (deadline : Option ℕ) → NoFlood t → Takes (Ties self.old) (Ties self.new) t (Begin op t.caller c (entry_act act) deadline)) }

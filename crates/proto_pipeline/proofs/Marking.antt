@@ -27,7 +27,7 @@ turned m n false h = grind (arith, nat_tests)
 same_number : (n : ℕ) → (n == n) ≡ true
 same_number n = grind (arith, nat_tests)
 
--- ---- Pipes that stand once
+-- ---- Pipes that occur once
 
 pub pipes_are : (full : ℕ → Bool) (vs : List ℕ) → pipes_of (map (port_of full) vs) ≡ vs
 pipes_are full [] = refl
@@ -90,7 +90,7 @@ stands (x ∷ xs) p (suc i) d l e = go (x.pipe == p) (stands xs p i d (omega (ar
     go true k = refl
     go false k = k
 
--- it isn't one that has another of the same number behind it
+-- it isn't followed by another one of the same number
 not_it : (x : Port) (xs : List Port) (p i : ℕ) (d : Port) → has (pipes_of xs) x.pipe ≡ false → i < length xs → (slice_index_or xs i d).pipe ≡ p → (x.pipe == p) ≡ false
 not_it x xs p i d n l e = go (x.pipe == p) refl
   where
@@ -230,21 +230,21 @@ marks_none m xs f r = record {
     at (y ∷ ys) zero d l = refl
     at (y ∷ ys) (suc k) d l = at ys k d (omega (arith, l))
 
--- those behind the last that is full need no clearing
+-- those after the last full one need no clearing
 pub rest_clear : (xs : List Port) → ((k : ℕ) (d : Port) → k < length xs → (slice_index_or xs k d).is_full ≡ false) → xs ≡ map cleared xs
 rest_clear [] h = refl
 rest_clear (x ∷ xs) h =
     let one : x ≡ cleared x = ap (λ (f : Bool). let y : Port = record { pipe = x.pipe; is_full = f } in y) (h 0 x (omega arith)) in
     ap (λ (y : Port). y ∷ xs) one ∙ ap (λ (ys : List Port). cleared x ∷ ys) (rest_clear xs (λ k d l. h (suc k) d (omega (arith, l))))
 
--- where those before a place are cleared, and those from it on are not full, all are
+-- where those before a place are cleared, and those from it on are not full, all are cleared
 pub clear_all : (xs : List Port) (n : ℕ) → ((k : ℕ) (d : Port) → n ≤ k → k < length xs → (slice_index_or xs k d).is_full ≡ false) → map cleared (take n xs) ++ drop n xs ≡ map cleared xs
 clear_all [] zero h = refl
 clear_all [] (suc n) h = refl
 clear_all (x ∷ xs) zero h = rest_clear (x ∷ xs) (λ k d l. h k d (omega arith) l)
 clear_all (x ∷ xs) (suc n) h = ap (λ (ys : List Port). cleared x ∷ ys) (clear_all xs n (λ k d low l. h (suc k) d (omega (arith, low)) (omega (arith, l))))
 
--- ---- Where a pipe stands
+-- ---- The place of a pipe
 
 none_any : (p : ℕ) (xs : List Port) → find (is_port p) xs ≡ None → list_any (is_port p) xs ≡ false
 none_any p [] h = refl

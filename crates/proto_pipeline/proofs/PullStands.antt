@@ -61,7 +61,7 @@ any_from p (k ∷ ks) = ap (λ b. (k.pipe == p) || b) (any_from p ks)
 pub wants_means : (z : Setting) (before : List Entry) (p : ℕ) (ks : List Kept) → z.role ≡ role.Pull → map item_of ks ≡ pool z before 0 → not (list_any (λ (k : Kept). k.pipe == p) ks) ≡ wanted z before p
 wants_means z before p ks h e = ap not (sym (any_from p ks)) ∙ ap (has_none_of p) (e ∙ sym (kept_pull z before 0 h)) ∙ rw h refl
 
--- what is kept of the pipe, as the pull knows it, or by looking
+-- what is kept of the pipe, as the pull knows it or finds it
 pub wants_known : (z : Setting) (before : List Entry) (us : List ℕ) (p : ℕ) (b : Bool) → z.role ≡ role.Pull → Some b ≡ mark_of us (pool z before 0) p → not b ≡ wanted z before p
 wants_known z before us p b h e = go (has us p) e
   where
@@ -200,7 +200,7 @@ lost_ties m n t op cause by h holds same =
       places = rw same h.places;
     }
 
--- the first that was kept, where it goes to the receive
+-- the first message that was kept, where the receive gets it
 pub given_ties : (m n : Pull) (t : Moment) (op : OpName) (s : Begun) (text : RecordedMessage) (k : Kept) → Ties m t → CanGive t op s text → Holds n.waiting (without_begun (pend (past t)) op) → m.kept.items ≡ k ∷ n.kept.items → deque_capacity n.kept ≡ deque_capacity m.kept
     → ((q : ℕ) → mark_at n.sources q ≡ cond (k.pipe == q) (option_map (λ _. false) (mark_at m.sources k.pipe)) (mark_at m.sources q)) → length n.sources ≡ length m.sources
     → (n.raw ≡ m.raw) × (n.options ≡ m.options) → (text_of k.message ≡ text) × Ties n (also t (End op (Won (Received text))))

@@ -1,4 +1,4 @@
--- The places that a pull has for frames.
+-- The places of a pull for frames.
 use Rattle.std.proofs.Common.{◌≡◌, refl, ap, sym, ◌∙◌, subst, List, [], ◌∷◌, ◌++◌, ℕ, ◌+◌, ◌≤◌, Bool, true, false, cond, arith, length}
 use Rattle.std.specs.Prelude.{not, ◌||◌, ◌==◌}
 use Rattle.std.specs.List.{list_any}
@@ -55,7 +55,7 @@ places_down is (u ∷ us) p = go (u == p) (places_down is us p)
         drops false = omega (arith, h)
     go false h = one_more (list_any (is_from u) is) _ _ h
 
--- an item more takes no place more
+-- one more item takes no more places
 frame_most : (is : List Item) (i : Item) (us : List ℕ) → places_for (is ++ i ∷ []) us ≤ places_for is us
 frame_most is i [] = omega arith
 frame_most is i (u ∷ us) = subst (λ (b : Bool). cond b (places_for (is ++ i ∷ []) us) (places_for (is ++ i ∷ []) us + 1) ≤ places_for is (u ∷ us)) (sym (list_any-append (is_from u) is (i ∷ []))) (go (list_any (is_from u) is) (is_from u i) (frame_most is i us))
@@ -65,7 +65,7 @@ frame_most is i (u ∷ us) = subst (λ (b : Bool). cond b (places_for (is ++ i �
     go false true h = omega (arith, h)
     go false false h = omega (arith, h)
 
--- that of a pipe that is up, and of which none was kept, takes one
+-- one of a pipe that is up, and of which none was kept, takes one place
 pub places_frame : (is : List Item) (i : Item) (us : List ℕ) → has us i.pipe ≡ true → list_any (is_from i.pipe) is ≡ false → places_for (is ++ i ∷ []) us + 1 ≤ places_for is us
 places_frame is i [] h n = absurd cc
 places_frame is i (u ∷ us) h n = subst (λ (b : Bool). cond b (places_for (is ++ i ∷ []) us) (places_for (is ++ i ∷ []) us + 1) + 1 ≤ places_for is (u ∷ us)) (sym (list_any-append (is_from u) is (i ∷ []))) (go (u == i.pipe) refl h (frame_most is i us) (λ k. places_frame is i us k n))
@@ -84,7 +84,7 @@ places_frame is i (u ∷ us) h n = subst (λ (b : Bool). cond b (places_for (is 
         let other : is_from u i ≡ false = turned u i.pipe false e in
         rw other (apart (list_any (is_from u) is) (again k))
 
--- one less gives back the place of its pipe alone
+-- one item fewer frees only the place of its pipe
 other_places : (is : List Item) (i : Item) (us : List ℕ) → has us i.pipe ≡ false → places_for is us ≤ places_for (i ∷ is) us
 other_places is i [] h = omega arith
 other_places is i (u ∷ us) h =

@@ -1,4 +1,5 @@
--- What a pull knows of its pipes, when one comes up, goes down, gives a frame, or a message of it is given away.
+-- What a pull knows of its pipes, when one comes up, goes down, gives a frame, or a message of it is given to a
+-- receive.
 use Rattle.std.proofs.Common.{◌≡◌, refl, ap, sym, ◌∙◌, subst, List, [], ◌∷◌, ◌++◌, ℕ, ◌+◌, ◌≤◌, Bool, true, false, cond, arith, Option, Some, None, length}
 use Rattle.std.specs.Prelude.{not, ◌||◌, ◌&&◌, ◌==◌, is_some, filter}
 use Rattle.std.specs.List.{list_any}
@@ -154,7 +155,7 @@ counted_down us is p old new k is_up h e le =
 
 -- ---- The map
 
--- where it is there, its mark is the new one
+-- where it is in the map, its mark is the new one
 pub marked_at : (es fs : List (ℕ × Bool)) (p q : ℕ) (b : Bool) → is_some (mark_at es p) ≡ true → mark_at fs q ≡ cond (p == q) (Some b) (mark_at es q) → mark_at fs q ≡ cond (p == q) (option_map (λ _. b) (mark_at es p)) (mark_at es q)
 marked_at es fs p q b there h = h ∙ go (mark_at es p) there
   where

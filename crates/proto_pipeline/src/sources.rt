@@ -1,4 +1,4 @@
-//! The pipes of a pull that are up, and of which of them a message is kept.
+//! The pipes of a pull that are up, and which of them have a message that is kept.
 ghost use Rattle.std.specs.Prelude.{◌≡◌, ◌+◌, ◌<◌, ◌^◌, ◌==◌, ℕ, Some, None, false, if◌then◌else◌, length, is_some, option_map, OnOk, OnErr};
 ghost use Rattle.proto_pipeline.specs.Sources.{mark_at};
 
@@ -7,7 +7,7 @@ use std::alloc::Global;
 use std::collections::HashMap;
 use std::marker::Model;
 
-/// What a call costs does not grow with the pipes.
+/// The pipes of a pull. The cost of a call doesn't grow with their number.
 #[derive(Drop)]
 pub struct Sources {
     /// Whether a message is kept, by the number of the pipe.
@@ -23,7 +23,7 @@ impl Model for Sources {
 }
 
 impl Sources {
-    /// No pipe is up.
+    /// No pipes.
     pub fn new(alloc: Global) -> Sources
         ensures kept { (q : ℕ) → mark_at result q ≡ None }
         ensures count { length result ≡ 0 }
@@ -33,7 +33,7 @@ impl Sources {
         }
     }
 
-    /// How many pipes are up.
+    /// The number of pipes that are up.
     pub fn count(&self) -> usize
         ensures count { result ≡ length self.now }
         ensures small { result < 2 ^ 63 }
@@ -41,14 +41,14 @@ impl Sources {
         self.marks.len()
     }
 
-    /// Whether a message of the pipe is kept; none where the pipe is not up.
+    /// Returns whether a message of the pipe is kept; `None` where the pipe is not up.
     pub fn kept(&self, p: PipeId) -> Option<bool>
         ensures { result ≡ mark_at self.now p }
     {
         self.marks.get(&p.0).copied()
     }
 
-    /// The pipe comes up, and none is kept of it.
+    /// Adds a pipe that comes up, of which no message is kept.
     pub fn add(&mut self, p: PipeId) -> Result<(), NoMemory>
         ensures ok { OnOk result ((q : ℕ) → mark_at self.new q ≡ (if p == q then Some false else mark_at self.old q)) }
         ensures more { OnOk result (length self.new ≡ length self.old + (if is_some (mark_at self.old p) then 0 else 1)) }
@@ -61,7 +61,7 @@ impl Sources {
         }
     }
 
-    /// The pipe is up no longer.
+    /// Removes a pipe.
     pub fn remove(&mut self, p: PipeId)
         ensures kept { (q : ℕ) → mark_at self.new q ≡ (if p == q then None else mark_at self.old q) }
         ensures count { length self.new + (if is_some (mark_at self.old p) then 1 else 0) ≡ length self.old }

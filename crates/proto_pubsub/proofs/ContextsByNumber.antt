@@ -1,4 +1,4 @@
--- The contexts of a sub stand by rising number, so one is found by halving.
+-- The contexts of a sub are in the order of their numbers, so one is found by halving.
 use Rattle.std.proofs.Common.{◌≡◌, refl, ap, sym, ◌∙◌, subst, List, [], ◌∷◌, ℕ, zero, suc, ◌+◌, ◌<◌, ◌≤◌, Bool, true, false, cond, arith, Option, Some, None, length, map, slice_index_or}
 use Rattle.std.specs.Prelude.{find, filter, not, remove, is_some, nat_lt, ◌==◌, ◌||◌}
 use Rattle.std.specs.List.{position, position_or_len, list_any}
@@ -51,7 +51,7 @@ over_at p [] k d h l = absurd (omega (arith, l))
 over_at p (x ∷ xs) zero d h l = h.0
 over_at p (x ∷ xs) (suc k) d h l = over_at p xs k d h.1 (omega (arith, l))
 
--- what `partition_point` asks
+-- the test of `partition_point`
 pub parted : (p : ℕ) (xs : List SubContextView) → InOrder xs → IsPartitionedBy (is_under p) xs
 parted p [] h i j d l m k = absurd (omega (arith, m))
 parted p (x ∷ xs) h zero zero d l m k = k
@@ -155,11 +155,11 @@ removed p (x ∷ xs) (suc i) d o l t b =
 pub shut_at : (p : ℕ) (xs : List SubContextView) (i : ℕ) (d : SubContextView) → InOrder xs → position (is_of_context p) xs ≡ Some i → remove xs i ≡ filter (λ (x : SubContextView). not (is_of_context p x)) xs
 shut_at p xs i d o h = let at = position-Some (is_of_context p) xs i d h in removed p xs i d o at.0 at.1 at.2
 
--- the place that is returned of a list that is the same
+-- the place that is returned, for a list that is the same
 pub here : (P : SubContextView → Bool) (xs ys : List SubContextView) (r : Option ℕ) → ys ≡ xs → InOrder xs → (InOrder ys → r ≡ position P ys) → position P xs ≡ r
 here P xs ys r e o h = sym (h (subst InOrder (sym e) o) ∙ ap (position P) e)
 
--- ---- As a past tells them
+-- ---- As a past has them
 
 pub numbers : (places : ℕ) (is : ℕ → List Item) (ts : ℕ → List (List ℕ)) (cs : List ℕ) → map ctx_of (map (context_at places is ts) cs) ≡ cs
 numbers places is ts [] = refl

@@ -50,10 +50,10 @@ same_turned a b false h = go (same_bytes b a) refl
 is_same : (a b : List ℕ) → is_eq (slice_cmp nat_cmp a b) ≡ same_bytes a b
 is_same a b = is_eq-slice_cmp a b
 
--- ---- A key more, or less
+-- ---- One more key, or one fewer
 
 module _ {Z : Type 0} where
-  -- what is known of every text, where one key is put in or taken out
+  -- what is known of every text, where one key is added or removed
   pub updated : (old new : List (Vec ℕ Z)) (t b : List ℕ) (value : Bool) → is_known new t ≡ value
       → KeepsOthers (eq_by_cmp (λ x y. slice_cmp nat_cmp x.items y.items)) (λ k. is_eq (slice_cmp nat_cmp t k.items)) old new → is_known new b ≡ cond (same_bytes b t) value (is_known old b)
   unfolding KeepsOthers
@@ -127,7 +127,7 @@ module _ {Z : Type 0} (old new : List (Vec ℕ Z)) (lens now : List ℕ) (ts : L
       long b true k = absurd cc
       long b false k = h.1 b k
 
--- a length that no topic has may go
+-- a length that no topic has may be removed
 pub length_left : (lens : List ℕ) (us : List (List ℕ)) (n : ℕ) → list_any (λ u. length u == n) us ≡ false → (b : List ℕ) → has_topic us b ≡ true → has lens (length b) ≡ true → has (without lens n) (length b) ≡ true
 length_left lens us n none b h k = any-filter_same (λ y. y == length b) (λ y. not (y == n)) true stays lens ∙ k
   where
@@ -161,7 +161,7 @@ take_length zero b h = refl
 take_length (suc n) [] h = absurd (omega arith)
 take_length (suc n) (y ∷ b) h = omega (arith, take_length n b (omega (arith, h)))
 
--- a topic that matches stands in the list
+-- a topic that matches is in the list
 wanted_has : (ts : List (List ℕ)) (b : List ℕ) → is_wanted_by ts b ≡ true → (t : List ℕ) × (has_topic ts t ≡ true) × (t ≡ take (length t) b)
 wanted_has [] b h = absurd cc
 wanted_has (u ∷ ts) b h = go (matches b u) refl h (wanted_has ts b)

@@ -1,4 +1,4 @@
--- What the past of a sub tells of its contexts and receives.
+-- What the past of a sub says about its contexts and receives.
 use Rattle.std.proofs.Common.{◌≡◌, refl, ap, sym, ◌∙◌, subst, List, [], ◌∷◌, ◌++◌, ℕ, Bool, true, false, cond, arith, Some, ◌<◌}
 use Rattle.std.specs.Prelude.{find, filter, drop, not, ⊤, ◌&&◌, ◌||◌, ◌==◌}
 use Rattle.std.specs.List.{list_any}
@@ -143,7 +143,7 @@ rising z (Ctx c Open ∷ before) a =
 rising z (Ctx c Shut ∷ before) a = rising_without (ctxs before) c (rising z before a.1)
 rising z (_ ∷ before) a = rising z before a.1
 
--- a raw one has its own context alone
+-- a raw one has only its own context
 pub only_zero : (z : Setting) (before : List Entry) (c : ℕ) → AreAllowed z before → z.raw ≡ true → has (ctxs before) c ≡ true → c ≡ 0
 only_zero z [] c a r h = go (0 == c) refl h
   where

@@ -56,7 +56,7 @@ absent (r ∷ ss) op h = go (is_of op r) h (absent ss op)
     go true h again = absurd (omega arith)
     go false h again = ap (λ (rest : List Begun). r ∷ rest) (again h)
 
--- where no name stands twice, the first is the only one
+-- where no name occurs twice, the first is the only one
 pub without_all : (op : OpName) (ws : List WaitingReceive) → occurs (map begun_of ws) op ≤ 1 → map begun_of (without_first op ws) ≡ without_begun (map begun_of ws) op
 without_all op [] h = refl
 without_all op (w ∷ ws) h = go (is_for op w) h (without_all op ws)
@@ -73,7 +73,7 @@ apart_rest s ss h op = go (is_of op s) (h op)
     go true k = omega (arith, k)
     go false k = k
 
--- where no name stands twice, it is the operation of its name
+-- where no name occurs twice, it is the operation of its name
 pub find_own : (P : WaitingReceive → Bool) (ws : List WaitingReceive) (w : WaitingReceive) → find P ws ≡ Some w → AreApart (map begun_of ws) → find (is_of w.op) (map begun_of ws) ≡ Some (begun_of w)
 find_own P [] w h a = absurd cc
 find_own P (x ∷ ws) w h a = go (P x) h (λ q. find_own P ws w q (apart_rest (begun_of x) (map begun_of ws) a))
@@ -107,7 +107,7 @@ passed K w (y ∷ ys) q = step (K y.ctx) refl q (passed K w ys)
     step true e q again = subst (λ (v : WaitingReceive). K v.ctx ≡ true) (some_y q) e
     step false e q again = again q
 
--- where a test reads the context alone, the first that passes it is the first of its context
+-- where a test reads only the context, the first that passes it is the first of its context
 pub first_of_its : (K : ℕ → Bool) (ws : List WaitingReceive) (w : WaitingReceive) → find (λ (x : WaitingReceive). K x.ctx) ws ≡ Some w → option_map (λ (s : Begun). s.op) (find (is_recv_on w.ctx) (map begun_of ws)) ≡ Some w.op
 first_of_its K [] w h = absurd cc
 first_of_its K (x ∷ ws) w h = go (K x.ctx) refl h (x.ctx == w.ctx) refl (first_of_its K ws w)

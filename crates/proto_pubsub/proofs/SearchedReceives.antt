@@ -1,4 +1,4 @@
--- Up to where the receives of a sub were looked at.
+-- The place up to which the receives of a sub were looked at.
 use Rattle.std.proofs.Common.{◌≡◌, refl, ap, sym, ◌∙◌, subst, List, [], ◌∷◌, ◌++◌, ℕ, zero, suc, ◌+◌, Bool, true, false, cond, arith, Option, Some, None, length, map, take, slice_index_or, ◌<◌, ◌≤◌, add-one}
 use Rattle.std.specs.Prelude.{find, filter, not, remove, drop, nat_lt, ◌==◌, ◌||◌}
 use Rattle.std.specs.List.{position, position_or_len, list_any}
@@ -103,7 +103,7 @@ module _ {A : Type 0} (P : A → Bool) where
   pub before_end : (xs : List A) (n : ℕ) → n ≡ length xs → None ≡ position P xs → NoneBefore P n xs
   before_end xs n e h = (omega (arith, e), ap (λ (k : ℕ). list_any P (take k xs)) e ∙ ap (list_any P) (whole xs) ∙ fails xs (not_found P xs (sym h)))
 
-  -- ---- One more, and one less
+  -- ---- One more, and one fewer
 
   same_before : (xs ys : List A) (n : ℕ) → n ≤ length xs → take n (xs ++ ys) ≡ take n xs
   same_before [] [] zero h = refl
@@ -116,7 +116,7 @@ module _ {A : Type 0} (P : A → Bool) where
   long_more [] ys = omega arith
   long_more (x ∷ xs) ys = omega (arith, long_more xs ys)
 
-  -- one stands behind
+  -- one more comes after them
   pub more_before : (xs ys : List A) (n : ℕ) → NoneBefore P n xs → NoneBefore P n (xs ++ ys)
   more_before xs ys n h = let few = h.0 in let more = long_more xs ys in (omega (arith, few, more), ap (list_any P) (same_before xs ys n few) ∙ h.1)
 
@@ -190,7 +190,7 @@ module _ (P : SubContextView → Bool) (f : SubContextView → SubContextView) (
       go true again = ap (λ (n : ℕ). is_kept (cond (n == c) (Some (f x)) (find (is_of_context c) xs))) (same x) ∙ here (x.ctx == c) h
       go false again = there (x.ctx == c) h again
 
--- one less
+-- one fewer
 pub given_kept : (P : SubContextView → Bool) (xs : List SubContextView) (c : ℕ) → keeps_at xs c ≡ false → keeps_at (with_found P given_from xs) c ≡ false
 given_kept P = less_kept P given_from (λ x. refl) (λ x. none x.kept)
   where

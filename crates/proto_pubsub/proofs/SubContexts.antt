@@ -22,7 +22,7 @@ first_is p (x ∷ xs) (suc i) d h t b =
     let no : p x ≡ false = b 0 (omega arith) in
     rw no (first_is p xs i d (omega (arith, h)) t (λ k l. b (suc k) (omega (arith, l))))
 
--- the place of the first is where it stands
+-- the place of the first is where it is
 pub found_at : {A : Type 0} (p : A → Bool) (xs : List A) (i : ℕ) (d : A) → position p xs ≡ Some i → find p xs ≡ Some (slice_index_or xs i d)
 found_at p xs i d h = let at = position-Some p xs i d h in first_is p xs i d at.0 at.1 at.2
 
@@ -71,7 +71,7 @@ switch_one (Ok true) c xs i d v topic on h s = (s.0, ap (slice_set xs i) s.1 ∙
 switch_one (Ok false) c xs i d v topic on h s = (s.0, same_at (is_of_context c) xs i d v h s.1)
 switch_one (Err e) c xs i d v topic on h s = (s.0, same_at (is_of_context c) xs i d v h s.1)
 
--- no out of memory where one is taken off
+-- never out of memory where a topic is removed
 pub one_off : {E : Type 0} (r : Result Bool E) (x v : SubContextView) (topic : List ℕ) (on : Bool) → on ≡ false → Switches r x v topic on → OnErr r ⊥
 one_off (Ok b) x v topic on e s = tt
 one_off (Err y) x v topic on e s = let no : false ≡ true = sym e ∙ s.0 in absurd cc
@@ -92,7 +92,7 @@ writes f [] i d h = absurd (omega arith)
 writes f (x ∷ xs) zero d h = refl
 writes f (x ∷ xs) (suc i) d h = ap (λ rest. f x ∷ rest) (writes f xs i d (omega (arith, h)))
 
--- one element more was written
+-- one more element was written
 pub written : {A : Type 0} (f : A → A) (xs ys : List A) (i : ℕ) (d v : A) → i < length xs → ys ≡ map f (take i xs) ++ drop i xs → v ≡ f (slice_index_or ys i d)
     → slice_set ys i v ≡ map f (take (i + 1) xs) ++ drop (i + 1) xs
 written f xs ys i d v h e w =
@@ -104,7 +104,7 @@ long_written f [] (suc i) = refl
 long_written f (x ∷ xs) zero = refl
 long_written f (x ∷ xs) (suc i) = omega (arith, long_written f xs i)
 
--- what was written last stands there
+-- what was written last is there
 pub set_is : {A : Type 0} (xs : List A) (i : ℕ) (v d : A) → i < length xs → slice_index_or (slice_set xs i v) i d ≡ v
 set_is [] i v d h = absurd (omega arith)
 set_is (x ∷ xs) zero v d h = refl
@@ -138,7 +138,7 @@ parts f (x ∷ xs) (suc i) d h =
     let p = parts f xs i d (omega (arith, h)) in
     record { rest = p.rest; before = ap (λ rest. x ∷ rest) p.before; after = ap (λ rest. f x ∷ rest) p.after }
 
--- the one before which it stopped is as it was
+-- the one before which it stopped is unchanged
 pub stops : (needs : SubContextView → Bool) (f : SubContextView → SubContextView) (xs ys : List SubContextView) (i c : ℕ) (d v : SubContextView) → i < length xs → ys ≡ map f (take i xs) ++ drop i xs → v ≡ slice_index_or ys i d → needs v ≡ true → v.ctx ≡ c → StopsAt needs f c xs (slice_set ys i v)
 stops needs f xs ys i c d v h e w need k =
     let at : SubContextView = slice_index_or (map f (take i xs) ++ drop i xs) i d in
@@ -171,7 +171,7 @@ long_parts f (x ∷ done) rest = omega (arith, long_parts f done rest)
 pub long_stops : (needs : SubContextView → Bool) (f : SubContextView → SubContextView) (c : ℕ) (xs ys : List SubContextView) → StopsAt needs f c xs ys → length ys ≡ length xs
 long_stops needs f c xs ys h = ap length h.after ∙ long_parts f h.done (h.at ∷ h.rest) ∙ sym (ap length h.before)
 
--- ---- As a past tells them
+-- ---- As a past has them
 
 pub map_same : {A : Type 0} (f g : ℕ → A) (cs : List ℕ) → ((c : ℕ) → has cs c ≡ true → f c ≡ g c) → map f cs ≡ map g cs
 map_same f g [] h = refl
@@ -222,7 +222,7 @@ module _ (places : ℕ) (is : ℕ → List Item) (ts : ℕ → List (List ℕ)) 
       after true b q = refl
       after false b q = q
 
-  -- the one that stands there is as the past tells it
+  -- the one that is there is as the past has it
   pub is_at : (cs : List ℕ) (done rest : List SubContextView) (at : SubContextView) → map (context_at places is ts) cs ≡ done ++ at ∷ rest → at ≡ context_at places is ts at.ctx
   is_at [] [] rest at e = absurd cc
   is_at [] (d ∷ done) rest at e = absurd cc
@@ -273,7 +273,7 @@ module _ (places : ℕ) (is : ℕ → List Item) (ts : ℕ → List (List ℕ)) 
         go true e again = again
         go false e again = ap (λ y. y ∷ filter (λ (x : SubContextView). not (x.ctx == c)) (map (context_at places is ts) cs)) (o x (turned x c e)) ∙ ap (λ rest. context_at places js us x ∷ rest) again
 
-    -- those below this number were changed, and no other
+    -- those below this number were changed, and no others
     pub stopped : (f : SubContextView → SubContextView) (c : ℕ) (cs : List ℕ) (done rest : List SubContextView) (at : SubContextView) → IsRising cs → map (context_at places is ts) cs ≡ done ++ at ∷ rest → at.ctx ≡ c
         → ((e : ℕ) → has cs e ≡ true → e < c → f (context_at places is ts e) ≡ context_at places js us e) → ((e : ℕ) → has cs e ≡ true → c ≤ e → context_at places is ts e ≡ context_at places js us e) → map f done ++ at ∷ rest ≡ map (context_at places js us) cs
     stopped f c [] [] rest at r e k low high = absurd cc

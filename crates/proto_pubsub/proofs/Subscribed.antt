@@ -59,7 +59,7 @@ is_raw m t h = ap (λ (k : Kind). k.raw) h.kind
 is_options : (m : Subscribe) (t : Moment) → Ties m t → t.z.options ≡ m.options
 is_options m t h = ap (λ (k : Kind). k.options) h.kind
 
--- its contexts stand in order
+-- its contexts are in order
 pub in_order : (m : Subscribe) (t : Moment) (xs : List SubContextView) → Ties m t → xs ≡ m.contexts.items → InOrder xs
 in_order m t xs h e = subst AreOrdered (sym (ap (map ctx_of) (e ∙ h.contexts) ∙ numbers m.options.queue (λ c. pool t.z (past t) c) (λ c. topics (past t) c) (ctxs (past t)))) h.order
 
@@ -198,7 +198,7 @@ module _ (m : Subscribe) (t : Moment) (p : ℕ) (v : MessageView) (h : Ties m t)
 pub many : (m : Subscribe) (t : Moment) → Ties m t → length m.contexts.items ≡ length (ctxs (past t))
 many m t h = ap length h.contexts ∙ length-map (ctxs (past t)) (context_at m.options.queue (pools t) (tops t))
 
--- raw, one alone is open
+-- raw, only one is open
 pub one_raw : (m : Subscribe) (t : Moment) → AreAllowed t.z (past t) → Ties m t → t.z.raw ≡ true → length m.contexts.items ≤ 1
 one_raw m t a h r = let few = at_most (ctxs (past t)) (rising t.z (past t) a) (λ c k. only_zero t.z (past t) c a r k) in omega (arith, many m t h, few)
   where

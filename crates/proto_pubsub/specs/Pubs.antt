@@ -1,4 +1,4 @@
--- What a pub stands for.
+-- The history that a pub stands for.
 use Rattle.std.specs.Prelude.{◌≡◌, ℕ, Bool, ⊤, List, [], ◌∷◌, length}
 use Rattle.sp_base.specs.declared.role.Role.TheVariants as role
 use Rattle.sp_msg.specs.Views.{MessageView}
@@ -17,11 +17,11 @@ use Rattle.proto_pubsub.specs.declared.publish.Publish.{Publish}
 abbrev pub pub_kind : Bool → Options → Kind
 pub_kind raw options = record { role = role.Pub; raw = raw; options = options }
 
--- how many operations are left to be offered at most
+-- the maximum number of operations that are still to be offered
 abbrev pub offers_left : Publish → ℕ
 offers_left m = count m.pending
 
--- how many operations more can begin
+-- how many more operations can begin
 abbrev pub places_left : Publish → ℕ
 places_left m = room m.pending
 
@@ -34,7 +34,7 @@ abbrev pub IsFlood : List MessageView → RecordedAct → Type 0
 IsFlood copies Recv = ⊤
 IsFlood copies (Send m) = AreCopies m.body copies
 
--- The pub is of this kind, knows how many pipes are up, and has these operations pending; nothing is kept
+-- The pub has this kind, knows how many pipes are up, and has these operations pending; nothing is kept
 pub record Shows (m : Publish) (k : Kind) (us : List ℕ) (is : List Item) (ss : List Begun) (cs : List ℕ) : Type 0 where
   pub kind : k ≡ pub_kind m.raw m.options
   pub pipes : m.pipes ≡ length us

@@ -1,4 +1,4 @@
--- A context of a sub, and what becomes of it.
+-- A context of a sub, and its changes.
 use Rattle.std.specs.Prelude.{◌≡◌, ℕ, ⊤, ◌<◌, ◌==◌, ◌||◌, ◌&&◌, Bool, true, false, not, nat_lt, if◌then◌else◌, List, [], ◌∷◌, ◌++◌, length, map, drop, filter, Option, Some, None, Result, Ok, Err}
 use Rattle.sp_msg.specs.Views.{MessageView}
 use Rattle.sp_history.specs.declared.setting.Options.{Options}
@@ -13,7 +13,7 @@ pub record SubContextView : Type 0 where
   pub places : ℕ
   pub kept : List MessageView
 
--- the new one is last; a full queue discards it, or the oldest
+-- the new message is last; a full queue discards it, or the oldest
 abbrev pub added : Bool → ℕ → MessageView → List MessageView → List MessageView
 added prefer_new most m ms = if nat_lt (length ms) most then ms ++ m ∷ [] else if prefer_new then drop 1 ms ++ m ∷ [] else ms
 
@@ -22,16 +22,16 @@ abbrev pub kept_in : Bool → Options → MessageView → SubContextView → Sub
 kept_in raw options m x =
     if raw || is_wanted_by x.topics m.body then record { ctx = x.ctx; topics = x.topics; places = x.places; kept = added options.prefer_new x.places m x.kept } else x
 
--- the context keeps a frame with this body: it is for it, and the queue isn't full, or discards its oldest
+-- the context keeps a frame with this body: a topic matches it, and the queue isn't full, or discards its oldest
 abbrev pub takes_frame : Bool → Options → List ℕ → SubContextView → Bool
 takes_frame raw options body x = (raw || is_wanted_by x.topics body) && (nat_lt (length x.kept) x.places || options.prefer_new)
 
--- the message is last, in a full queue in place of the oldest
+-- the message is last; in a full queue it replaces the oldest
 abbrev pub with_message : MessageView → SubContextView → SubContextView
 with_message m x =
     record { ctx = x.ctx; topics = x.topics; places = x.places; kept = if nat_lt (length x.kept) x.places then x.kept ++ m ∷ [] else drop 1 x.kept ++ m ∷ [] }
 
--- a new one
+-- a new context
 abbrev pub fresh_context : ℕ → ℕ → SubContextView
 fresh_context places c = record { ctx = c; topics = []; places = places; kept = [] }
 
@@ -43,19 +43,19 @@ given_from x = record { ctx = x.ctx; topics = x.topics; places = x.places; kept 
 abbrev pub emptied : SubContextView → SubContextView
 emptied x = record { ctx = x.ctx; topics = x.topics; places = x.places; kept = [] }
 
--- one topic more
+-- one more topic
 abbrev pub with_topic : List ℕ → SubContextView → SubContextView
 with_topic t x = record { ctx = x.ctx; topics = x.topics ++ t ∷ []; places = x.places; kept = x.kept }
 
 abbrev pub topics_without : List ℕ → List (List ℕ) → List (List ℕ)
 topics_without t ts = filter (λ u. not (same_bytes u t)) ts
 
--- one topic less, and only what the others match
+-- one topic fewer, and only the messages that the others match
 abbrev pub without_topic : List ℕ → SubContextView → SubContextView
 without_topic t x =
     record { ctx = x.ctx; topics = topics_without t x.topics; places = x.places; kept = filter (λ m. is_wanted_by (topics_without t x.topics) m.body) x.kept }
 
--- one is put on, or taken off
+-- one topic is added or removed
 abbrev pub switched : Bool → List ℕ → SubContextView → SubContextView
 switched true t x = with_topic t x
 switched false t x = without_topic t x
@@ -77,7 +77,7 @@ abbrev pub AreOrdered : List ℕ → Type 0
 AreOrdered [] = ⊤
 AreOrdered (c ∷ cs) = AreOver c cs × AreOrdered cs
 
--- they stand in the order of their numbers
+-- the contexts are in the order of their numbers
 abbrev pub InOrder : List SubContextView → Type 0
 InOrder xs = AreOrdered (map ctx_of xs)
 
@@ -91,13 +91,13 @@ abbrev pub with_found : (SubContextView → Bool) → (SubContextView → SubCon
 with_found P f [] = []
 with_found P f (x ∷ xs) = if P x then f x ∷ xs else x ∷ with_found P f xs
 
--- whether that changes something; out of memory it changes nothing
+-- whether that changes something; out of memory nothing changes
 abbrev pub Switches : {E : Type 0} → Result Bool E → SubContextView → SubContextView → List ℕ → Bool → Type 0
 Switches (Ok true) old new t on = (has_topic old.topics t ≡ not on) × (new ≡ switched on t old)
 Switches (Ok false) old new t on = (has_topic old.topics t ≡ on) × (new ≡ old)
 Switches (Err e) old new t on = (on ≡ true) × (new ≡ old)
 
--- the same of one among several
+-- the same for one among several
 abbrev pub SwitchesOne : {E : Type 0} → Result Bool E → SubContextView → ℕ → List SubContextView → List SubContextView → List ℕ → Bool → Type 0
 SwitchesOne (Ok true) x c old new t on =
     (has_topic x.topics t ≡ not on) × (new ≡ with_found (is_of_context c) (switched on t) old)
@@ -108,7 +108,7 @@ abbrev pub SwitchesIn : {E : Type 0} → Result Bool E → Option SubContextView
 SwitchesIn r None c old new t on = (new ≡ old) × (r ≡ Ok false)
 SwitchesIn r (Some x) c old new t on = SwitchesOne r x c old new t on
 
--- the frame was kept up to this context, which needed a copy of it for which there was no memory
+-- the frame was kept up to this context, which needed a copy of it, and there was no memory for one
 pub record StopsAt (needs : SubContextView → Bool) (f : SubContextView → SubContextView) (c : ℕ) (old new : List SubContextView) : Type 0 where
   pub done : List SubContextView
   pub at : SubContextView

@@ -1,4 +1,4 @@
--- What a sub stands for.
+-- The history that a sub stands for.
 use Rattle.std.specs.Prelude.{◌≡◌, ℕ, ◌≤◌, ◌-◌, ◌||◌, Bool, true, false, not, nat_lt, if◌then◌else◌, List, [], ◌∷◌, length, map, take, find, Option, Some, None}
 use Rattle.std.specs.List.{list_any}
 use Rattle.std.specs.VecDeque.{deque_len, deque_capacity}
@@ -24,7 +24,7 @@ use Rattle.proto_pubsub.specs.declared.subscribe.WaitingReceive.{WaitingReceive}
 abbrev pub sub_kind : Bool → Options → Kind
 sub_kind raw options = record { role = role.Sub; raw = raw; options = options }
 
--- so many receives more can wait
+-- how many more receives can wait
 abbrev pub places_left : Subscribe → ℕ
 places_left m = deque_capacity m.waiting - deque_len m.waiting
 
@@ -32,7 +32,7 @@ places_left m = deque_capacity m.waiting - deque_len m.waiting
 abbrev pub view_of : Item → MessageView
 view_of i = record { header = i.message.header; body = i.message.body }
 
--- a context of so many places, with what is kept for it and its topics
+-- a context with these places, with what is kept for it and its topics
 abbrev pub context_at : ℕ → (ℕ → List Item) → (ℕ → List (List ℕ)) → ℕ → SubContextView
 context_at places is ts c = record { ctx = c; topics = ts c; places = places; kept = map view_of (is c) }
 
@@ -64,8 +64,8 @@ is_ready xs w = keeps_at xs w.ctx
 abbrev pub NoneBefore : {A : Type 0} → (A → Bool) → ℕ → List A → Type 0
 NoneBefore P n xs = (n ≤ length xs) × (list_any P (take n xs) ≡ false)
 
--- The sub is of this kind, has these contexts by rising number, each with memory for `queue` messages, with what is kept
--- for each and with its topics, these receives wait, and nothing is kept for those before the mark
+-- The sub has this kind, has these contexts by rising number, each with memory for `queue` messages, with what is kept
+-- for each and with its topics, and these receives wait; nothing is kept for those before the mark
 pub record Shows (m : Subscribe) (k : Kind) (is : ℕ → List Item) (ts : ℕ → List (List ℕ)) (cs : List ℕ) (ss : List Begun) : Type 0 where
   pub kind : k ≡ sub_kind m.raw m.options
   pub contexts : m.contexts.items ≡ map (context_at m.options.queue is ts) cs

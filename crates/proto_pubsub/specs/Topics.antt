@@ -1,4 +1,4 @@
--- How the topics of a context are found.
+-- How a context's topics are found.
 use Rattle.std.specs.Prelude.{◌≡◌, ◌↔◌, ◌≤◌, ◌&&◌, ℕ, Bool, true, List, Vec, length, take, nat_le}
 use Rattle.std.specs.List.{All, list_any}
 use Rattle.std.specs.Ordering.{is_eq, nat_cmp}
@@ -11,7 +11,7 @@ use Rattle.sp_history.specs.Legal.{has_topic}
 abbrev pub is_known : {Z : Type 0} → List (Vec ℕ Z) → List ℕ → Bool
 is_known ks b = list_any (λ k. is_eq (slice_cmp nat_cmp b k.items)) ks
 
--- so many first bytes of the body are a key
+-- the first n bytes of the body are a key
 abbrev pub is_prefix : {Z : Type 0} → List (Vec ℕ Z) → List ℕ → ℕ → Bool
 is_prefix ks body n = nat_le n (length body) && is_known ks (take n body)
 

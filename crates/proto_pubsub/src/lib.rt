@@ -1,13 +1,13 @@
 //! The machines of pub (nng_pub(7)) and sub (nng_sub(7)), cooked and raw.
 //!
-//! A pub sends to every pipe that is up and has room, in the turn of the send's begin. It takes a copy for each of them
-//! then, so that going out takes no memory. A frame of a subscriber is malformed.
+//! A pub sends to every pipe that is up and has room, in the turn of the send's begin. It then takes a copy for each of
+//! them, so that going out takes no memory. A frame of a subscriber is malformed.
 //!
 //! A sub has contexts, each with topics and a queue. A frame is kept once for each context of which a topic is a prefix
 //! of its body; the empty topic takes all. A full queue drops its oldest message, or, where its context prefers old
-//! ones, the new one. When a topic is taken off, what no topic matches any more is dropped. Raw, a sub has the socket's
-//! own context alone and takes every frame. `topics` has how a context's topics are found, `sub_contexts` what stands
-//! for each context, `subscribe` and `publish` the two machines.
+//! ones, the new one. When a topic is removed, what no topic matches any more is dropped. A raw sub has only the
+//! socket's own context and takes every frame. `topics` has how a context's topics are found, `sub_contexts` the open
+//! contexts, `subscribe` and `publish` the two machines.
 #![tactic(auto)]
 
 mod publish;

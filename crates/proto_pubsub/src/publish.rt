@@ -1,7 +1,7 @@
 //! The machine of pub (nng_pub(7)), cooked and raw.
 //!
-//! A send goes to every pipe that is up and has room, in the turn of its begin. It takes a copy for each of them then,
-//! so that going out takes no memory. A pub receives nothing: a frame is no message of its protocol, whatever its
+//! A send goes to every pipe that is up and has room, in the turn of its begin. It then takes a copy for each of them,
+//! so that going out takes no memory. A pub receives nothing: a frame is not a message of its protocol, whatever its
 //! bytes.
 ghost use Rattle.std.specs.Prelude.{◌≡◌, ◌<◌, ◌≤◌, ◌+◌, ℕ, [], Option, IfOk, IsOk, IfErr, OnOk, OnErr, length};
 ghost use Rattle.sp_history.specs.declared.entry.Entry.TheVariants.{Frame, Begin};
@@ -25,15 +25,15 @@ pub struct Publish {
     alloc: Global,
     raw: bool,
     options: Options,
-    /// How many pipes are up.
+    /// The number of pipes that are up.
     pipes: usize,
     pending: Pending,
-    /// Of the send that is pending, one for each pipe that gets it.
+    /// The copies of the pending send, one for each pipe that gets it.
     copies: Vec<Message>,
 }
 
 impl Publish {
-    /// A pub to which nothing has happened.
+    /// A new pub.
     pub fn new(alloc: Global, options: Options, raw: bool) -> Result<Publish, NoMemory>
         ensures { IfOk result (λ m. Starts Ties m (pub_kind raw options)) }
     {
@@ -97,7 +97,7 @@ impl Proto for Publish {
         true
     }
 
-    /// It closes its pipe.
+    /// A frame closes its pipe.
     fn frame(&mut self, p: PipeId, m: Message) -> Verdict
         requires { m.header ≡ [] }
         ensures kept { (t : Moment) → Lawful (also t (Frame p m.body)) → Ties self.old t → Frames (Ties self.new) result t p m.body }

@@ -18,9 +18,9 @@ use std::marker::Model;
 pub struct SubContext {
     ctx: Ctx,
     topics: Topics,
-    /// So many messages it keeps at most.
+    /// The maximum number of messages that are kept.
     places: usize,
-    /// The oldest first, with memory for all its places.
+    /// The messages that are kept, the oldest first, with memory for all its places.
     kept: VecDeque<Message>,
 }
 
@@ -36,7 +36,7 @@ impl Model for SubContext {
     ghost invariant = { λ x. (x.places ≤ deque_capacity x.kept) × (0 < deque_capacity x.kept) };
 }
 
-// Without what no topic matches.
+// Drops what no topic matches.
 fn drop_unwanted(kept: &mut VecDeque<Message>, topics: &Topics)
     ensures items { kept.new.items ≡ filter (λ m. is_wanted_by topics.now m.body) kept.old.items }
     ensures capacity { deque_capacity kept.new ≡ deque_capacity kept.old }
@@ -45,7 +45,7 @@ fn drop_unwanted(kept: &mut VecDeque<Message>, topics: &Topics)
 }
 
 impl SubContext {
-    /// A context with no topic, for which nothing is kept. Takes the places of `queue` messages.
+    /// A context with no topic, for which nothing is kept. Takes the memory for `queue` messages.
     pub fn new(alloc: Global, ctx: Ctx, options: Options) -> Result<SubContext, NoMemory>
         ensures { IfOk result (λ x. x ≡ fresh_context options.queue ctx) }
     {
@@ -66,22 +66,22 @@ impl SubContext {
         self.ctx
     }
 
-    /// It has this number.
+    /// Returns whether it has this number.
     pub fn is_of(&self, c: Ctx) -> bool
         ensures { result ≡ (self.now.ctx == c) }
     {
         self.ctx.0 == c.0
     }
 
-    /// Nothing is kept.
+    /// Returns whether nothing is kept.
     pub fn is_empty(&self) -> bool
         ensures { result ≡ is_nil self.now.kept }
     {
         self.kept.is_empty()
     }
 
-    // Whether it keeps a frame with this body: a topic matches it, or raw; and the queue isn't full, or discards its
-    // oldest.
+    // Returns whether it keeps a frame with this body: a topic matches it, or raw; and the queue isn't full, or
+    // discards its oldest.
     fn takes(&self, raw: bool, options: Options, body: &[u8]) -> bool
         ensures { result ≡ takes_frame raw options body.now self.now }
     {
@@ -89,7 +89,7 @@ impl SubContext {
             && (self.kept.len() < self.places || options.prefer_new)
     }
 
-    // Puts the message last, where the queue is full in place of the oldest.
+    // Puts the message last. In a full queue it replaces the oldest.
     fn put(&mut self, m: Message)
         ensures { self.new ≡ with_message m self.old }
     {
@@ -108,8 +108,8 @@ impl SubContext {
         }
     }
 
-    /// Keeps a copy of the frame, where a topic matches it, or raw. Returns false where a copy was needed and found no
-    /// memory; then all is as before.
+    /// Keeps a copy of the frame, where a topic matches it, or raw. Returns false where a copy was needed and there was
+    /// no memory for it; then nothing changes.
     pub fn keep_copy(&mut self, raw: bool, options: Options, m: &Message) -> bool
         ensures kept { result ≡ true → self.new ≡ kept_in raw options m.now self.old }
         ensures same { result ≡ false → self.new ≡ self.old }
@@ -127,7 +127,7 @@ impl SubContext {
         }
     }
 
-    /// The oldest message, which is kept no longer.
+    /// Removes and returns the oldest message.
     pub fn give(&mut self) -> Option<Message>
         ensures given { result ≡ head_of self.old.kept }
         ensures rest { self.new ≡ given_from self.old }
@@ -135,14 +135,14 @@ impl SubContext {
         self.kept.pop_front()
     }
 
-    /// Nothing is kept any more.
+    /// Drops all that is kept.
     pub fn clear(&mut self)
         ensures { self.new ≡ emptied self.old }
     {
         self.kept.clear();
     }
 
-    // Puts a topic on. Where there is no memory, all is as before.
+    // Adds a topic. Out of memory nothing changes.
     fn put_on(&mut self, alloc: Global, t: &[u8]) -> Result<bool, NoMemory>
         ensures changed { IfOk result (λ changed. changed ≡ true) }
         ensures on { OnOk result (self.new ≡ with_topic t.now self.old) }
@@ -152,7 +152,7 @@ impl SubContext {
         Ok(true)
     }
 
-    // Takes a topic off, and drops what no other matches.
+    // Removes a topic, and drops what no other topic matches.
     fn take_off(&mut self, t: &[u8])
         ensures { self.new ≡ without_topic t.now self.old }
     {
@@ -160,7 +160,7 @@ impl SubContext {
         drop_unwanted(&mut self.kept, &self.topics);
     }
 
-    /// Puts a topic on, or takes it off. Returns whether that changed something.
+    /// Adds a topic, or removes it. Returns whether that changed something.
     pub fn switch(&mut self, alloc: Global, t: &[u8], on: bool) -> Result<bool, NoMemory>
         ensures { Switches result self.old self.new t.now on }
     {

@@ -1,10 +1,10 @@
 //! The machine of sub (nng_sub(7)), cooked and raw.
 //!
-//! Each open context has topics, and a queue of at most `queue` messages, whose places are taken when it is opened. A
-//! frame is kept for each context of which a topic is a prefix of it, the empty topic of each; raw, for the one context
-//! that there is. A full queue discards its oldest message or the new one, as `prefer_new` says. The last open context
-//! keeps the frame itself, each other one a copy, which is made before anything is discarded; the first that finds no
-//! memory is told, and contexts of greater numbers go without as well.
+//! Each open context has topics, and a queue of at most `queue` messages, and the memory for them is taken when it is
+//! opened. A frame is kept for each context of which a topic is a prefix of it, the empty topic of each; raw, for the
+//! one context that there is. A full queue discards its oldest message or the new one, as `prefer_new` says. The last
+//! open context keeps the frame itself, each other one a copy, which is made before anything is discarded; the first
+//! for which there is no memory is reported, and contexts of larger numbers don't get the frame either.
 ghost use Rattle.std.specs.Prelude.{◌≡◌, ◌-◌, ◌+◌, ◌≤◌, ◌<◌, ◌==◌, ◌≢◌, Bool, ℕ, List, [], ◌∷◌, true, false, Some, None, IfOk, IfSome, OnErr, nat_lt, map, filter, find, length, take, drop, ◌++◌, not, option_to_list};
 ghost use Rattle.std.specs.VecDeque.{deque_len, deque_capacity};
 ghost use Rattle.std.specs.Option.{option_map};
@@ -41,22 +41,22 @@ pub struct Subscribe {
     alloc: Global,
     raw: bool,
     options: Options,
-    /// In the order in which they were opened, which is that of their numbers.
+    /// The open contexts, in the order in which they were opened, which is that of their numbers.
     contexts: Vec<SubContext>,
-    /// In the order of their begins.
+    /// The receives that wait, in the order of their begins.
     waiting: VecDeque<WaitingReceive>,
     /// Nothing is kept for the receives before this place.
     looked: usize,
 }
 
-// Its number is below this one.
+// Returns whether the number of `context` is below this one.
 fn is_before(context: &SubContext, c: Ctx) -> bool
     ensures { result ≡ nat_lt context.now.ctx c }
 {
     context.ctx().0 < c.0
 }
 
-// Where the context stands, by halving.
+// The place of the context, found by halving.
 fn index_of(contexts: &[SubContext], c: Ctx) -> Option<usize>
     ensures place { InOrder contexts.now → result ≡ position (is_of_context c) contexts.now }
     ensures inside { IfSome result (λ i. i < length contexts.now) }
@@ -71,14 +71,14 @@ fn index_of(contexts: &[SubContext], c: Ctx) -> Option<usize>
     Some(i)
 }
 
-// The context is open.
+// Returns whether the context is open.
 fn is_open(contexts: &[SubContext], c: Ctx) -> bool
     ensures { InOrder contexts.now → result ≡ list_any (is_of_context c) contexts.now }
 {
     index_of(contexts, c).is_some()
 }
 
-// Something is kept for the context.
+// Returns whether something is kept for the context.
 fn keeps_for(contexts: &[SubContext], c: Ctx) -> bool
     ensures { InOrder contexts.now → result ≡ keeps_at contexts.now c }
 {
@@ -88,7 +88,7 @@ fn keeps_for(contexts: &[SubContext], c: Ctx) -> bool
     }
 }
 
-// Where the first receive stands for which something is kept. Those before the place are not looked at.
+// The place of the first receive for which something is kept, from the given place on.
 fn ready_place(
     contexts: &[SubContext],
     waiting: &VecDeque<WaitingReceive>,
@@ -105,14 +105,14 @@ fn ready_place(
     None
 }
 
-// Where the operation stands.
+// The place of the operation.
 fn place_of(waiting: &VecDeque<WaitingReceive>, op: OpName) -> Option<usize>
     ensures { result ≡ position (is_for op) waiting.now.items }
 {
     waiting.iter().position(|w| w.op.slot == op.slot && w.op.generation == op.generation)
 }
 
-// The place, when the element at `i` is taken out.
+// The place `looked`, once the element at `i` is taken out.
 fn moved(looked: usize, i: usize) -> usize
     ensures before { i < looked → result + 1 ≡ looked }
     ensures behind { looked ≤ i → result ≡ looked }
@@ -144,8 +144,8 @@ fn take(
     }
 }
 
-// Keeps a copy of the frame in each of so many contexts that takes it. Returns the first for which there was no memory,
-// with which it stops.
+// Keeps a copy of the frame in each of the first `most` contexts that takes it. Stops at the first for which there is
+// no memory, and returns it.
 fn spread(
     contexts: &mut [SubContext],
     most: usize,
@@ -166,8 +166,8 @@ fn spread(
     None
 }
 
-// Keeps the frame in each context that takes it: the last has the frame itself, each other one a copy. Returns the
-// first for which there was no memory, with which it stops.
+// Keeps the frame in each context that takes it: the last has the frame itself, each other one a copy. Stops at the
+// first for which there is no memory, and returns it.
 fn keep_in_all(contexts: &mut [SubContext], raw: bool, options: Options, m: Message) -> Option<Ctx>
     ensures whole { result ≡ None → contexts.new ≡ map (kept_in raw options m) contexts.old }
     ensures stops { (c : ℕ) → result ≡ Some c → StopsAt (takes_frame raw options m.body) (kept_in raw options m) c contexts.old contexts.new }
@@ -186,7 +186,7 @@ fn keep_in_all(contexts: &mut [SubContext], raw: bool, options: Options, m: Mess
     }
 }
 
-// The oldest message of the context, which is kept no longer.
+// Removes and returns the oldest message of the context.
 fn give(contexts: &mut [SubContext], c: Ctx) -> Option<Message>
     ensures given { InOrder contexts.old → result ≡ first_in (find (is_of_context c) contexts.old) }
     ensures rest { InOrder contexts.old → contexts.new ≡ with_found (is_of_context c) given_from contexts.old }
@@ -197,7 +197,7 @@ fn give(contexts: &mut [SubContext], c: Ctx) -> Option<Message>
     }
 }
 
-// Puts a topic of the context on, or takes it off. Returns whether that changed something.
+// Adds a topic of the context, or removes it. Returns whether that changed something.
 fn switch(
     contexts: &mut [SubContext],
     alloc: Global,
@@ -214,7 +214,7 @@ fn switch(
     }
 }
 
-// The context is shut.
+// Shuts the context.
 fn shut(contexts: &mut Vec<SubContext>, c: Ctx)
     ensures { InOrder contexts.old.items → contexts.new.items ≡ filter (λ (x : SubContextView). not (is_of_context c x)) contexts.old.items }
 {
@@ -226,7 +226,7 @@ fn shut(contexts: &mut Vec<SubContext>, c: Ctx)
     }
 }
 
-// Nothing is kept any more.
+// Drops all that is kept.
 fn clear(contexts: &mut [SubContext])
     ensures { contexts.new ≡ map emptied contexts.old }
 {
@@ -235,7 +235,7 @@ fn clear(contexts: &mut [SubContext])
     }
 }
 
-// The first context.
+// The contexts of a new sub: the socket's own.
 fn first_contexts(alloc: Global, options: Options) -> Result<Vec<SubContext>, NoMemory>
     ensures { IfOk result (λ v. v.items ≡ fresh_context options.queue 0 ∷ []) }
 {
@@ -246,7 +246,7 @@ fn first_contexts(alloc: Global, options: Options) -> Result<Vec<SubContext>, No
 }
 
 impl Subscribe {
-    /// A sub to which nothing has happened. Takes the places of `queue` messages.
+    /// A new sub. Takes the memory for `queue` messages.
     pub fn new(alloc: Global, options: Options, raw: bool) -> Result<Subscribe, NoMemory>
         ensures { IfOk result (λ m. Starts Ties m (sub_kind raw options)) }
     {
@@ -312,8 +312,8 @@ impl Proto for Subscribe {
         true
     }
 
-    /// It has memory for all that it keeps, and the last open context gets the frame itself, so where one alone is open
-    /// it is never out of memory. Which topics match is found by the prefixes of the body.
+    /// Never out of memory where only one context is open: there is memory for all that it keeps, and the last open
+    /// context gets the frame itself. The topics that match are found by the prefixes of the body.
     fn frame(&mut self, p: PipeId, m: Message) -> Verdict
         requires { m.header ≡ [] }
         ensures kept { (t : Moment) → Lawful (also t (Frame p m.body)) → Ties self.old t → Frames (Ties self.new) result t p m.body }

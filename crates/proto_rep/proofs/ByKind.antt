@@ -109,7 +109,7 @@ some_name R op (w ∷ ws) x h = go (is_for op w) refl (R w) h (some_name R op ws
     go false e true h again = again (ap (λ v. cond v (Some w) (find (is_for op) (filter R ws))) (sym e) ∙ h)
     go false e false h again = again h
 
--- where no two have one name, one of a kind is the one of its name
+-- where no two have the same name, one of a kind is the one with its name
 pub found_kind : (R : ReplyOperation → Bool) (op : OpName) (ws : List ReplyOperation) (x : ReplyOperation) → occurs (map begun_of ws) op ≤ 1 → find (is_for op) (filter R ws) ≡ Some x → find (is_for op) ws ≡ Some x
 found_kind R op [] x l h = h
 found_kind R op (w ∷ ws) x l h = go (is_for op w) refl (R w) l h (found_kind R op ws x)
@@ -121,7 +121,7 @@ found_kind R op (w ∷ ws) x l h = go (is_for op w) refl (R w) l h (found_kind R
     go false e true l h again = again l (ap (λ v. cond v (Some w) (find (is_for op) (filter R ws))) (sym e) ∙ h)
     go false e false l h again = again l h
 
--- nothing of the name is there, of neither kind
+-- no operation of either kind has the name
 pub no_kind : (op : OpName) (ws : List ReplyOperation) → find (is_for op) (filter is_receive ws) ≡ None → find (is_for op) (filter is_reply ws) ≡ None → find (is_for op) ws ≡ None
 no_kind op [] h k = refl
 no_kind op (w ∷ ws) h k = go w.answer (is_for op w) refl h k (no_kind op ws)

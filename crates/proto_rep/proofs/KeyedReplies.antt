@@ -1,4 +1,4 @@
--- Replies by their keys and numbers, as pairs of a set in order.
+-- Replies by their keys and numbers, as pairs in an ordered set.
 use Rattle.std.proofs.Common.{◌≡◌, refl, ap, sym, ◌∙◌, subst, List, [], ◌∷◌, ◌++◌, ℕ, ◌+◌, ◌≤◌, ◌<◌, Bool, true, false, cond, arith, map, filter, Ordering, Less, Equal, Greater, Option, Some, None, length, take, slice_index_or}
 use Rattle.std.specs.Prelude.{nat_lt, not, find, IfSome, ◌&&◌, ◌||◌, ◌==◌}
 use Rattle.std.specs.Bool.{beq}
@@ -103,7 +103,7 @@ rest_gt Greater b h k = h
 from_key : (from k n : ℕ) → from ≤ k → is_gt (pair_cmp (from, 0) (k, n)) ≡ false
 from_key from k n l = rest_gt (nat_cmp from k) (nat_cmp 0 n) (not_after from k l) (not_after 0 n (omega arith))
 
--- what isn't before it has no lower number at the same key
+-- what isn't before it has no lower number for the same key
 pair_first : (x : ℕ × ℕ) (k n : ℕ) → is_gt (pair_cmp x (k, n)) ≡ false → (x.0 ≤ k) × (x.0 ≡ k → x.1 ≤ n)
 pair_first x k n h = (le_cmp x.0 k (ge_first (nat_cmp x.0 k) (nat_cmp x.1 n) h), λ e. le_cmp x.1 n (second (nat_cmp x.0 k) (nat_cmp x.1 n) (at e) h))
   where
@@ -123,7 +123,7 @@ first_in from s r t x e h =
 pub none_in : (from : ℕ) (s : BTreeSet (ℕ × ℕ)) (r : List (ℕ × ℕ)) → r ≡ [] → IsKeyRangeOf pair_cmp (Included (from, 0)) Unbounded s r → IsLeast from s.keys None
 none_in from s r e h k n l = sym (pair_is k n s.keys) ∙ h.5 e (k, n) (from_key from k n l, tt)
 
--- one more key is of a full pipe
+-- one more key belongs to a full pipe
 pub full_more : (xs : List PortView) (from below next : ℕ) (ks : List (ℕ × ℕ)) (x : ℕ × ℕ) → AreFull xs from below ks → IsLeast below ks (Some x) → next ≡ x.0 + 1 → ((k : ℕ) → k ≡ x.0 → IsFullKey xs k) → AreFull xs from next ks
 full_more xs from below next ks x f l e full k n a b i = go (nat_lt k below) refl
   where
@@ -208,10 +208,10 @@ keyed_less raw P old new from next (w ∷ ws) x f u r h = go (P w) f (λ e. keye
     go true f again = let is : x.number ≡ w.number = ap (λ (v : WaitingReply). v.number) (sym (some_inj w x f)) in others_keyed raw old new x.number (w.number + 1) next ws u (omega (arith, is)) r.2 h.1
     go false f again = let l = found_rising P (w.number + 1) next ws x r.2 f in (u (reply_key raw w) w.number (λ e. omega (arith, l, e)) h.0, again f)
 
--- ---- What the index tells
+-- ---- What the index shows
 
 module _ (raw : Bool) (xs : List PortView) where
-  -- those that are passed over then can't leave, either
+  -- those that are then passed over can't leave either
   pub full_passed : (from to : ℕ) (ks : List (ℕ × ℕ)) (ws : List WaitingReply) → AreFull xs from to ks → AreKeyed raw ks ws → list_any (can_leave raw xs) (filter (is_below raw from) ws) ≡ false → list_any (can_leave raw xs) (filter (is_below raw to) ws) ≡ false
   full_passed from to ks ws f h s = any_kept (can_leave raw xs) (is_below raw to) ws ∙ go ws h (sym (any_kept (can_leave raw xs) (is_below raw from) ws) ∙ s)
     where
@@ -249,7 +249,7 @@ module _ (raw : Bool) (xs : List PortView) where
           let b = both_false (is_below raw below w && can_leave raw xs w) (list_any (λ v. is_below raw below v && can_leave raw xs v) ws) s in
           ap (λ c. c || list_any (can_leave raw xs) ws) (here w h.0 (is_below raw below w) refl b.0) ∙ go ws h.1 b.1
 
-  -- the first key from the mark on is of the first reply to its pipe
+  -- the first key from the mark on belongs to the first reply to its pipe
   pub first_leaves : (below next : ℕ) (ks : List (ℕ × ℕ)) (x : ℕ × ℕ) (ws : List WaitingReply) (w : WaitingReply) → IsLeast below ks (Some x) → AreKeyed raw ks ws → AreRising 0 next ws → find (is_leaving raw xs x.0 x.1) ws ≡ Some w → find (leaves_to raw xs x.0) ws ≡ Some w
   first_leaves below next ks x ws w l h r f = go 0 ws h r f
     where
@@ -306,7 +306,7 @@ some_there : {A : Type 0} (P : A → Bool) (v : Option A) → any_in P v ≡ tru
 some_there P None h = absurd cc
 some_there P (Some w) h = (w, refl)
 
--- the one of the number that stands there is the first
+-- the one of this number that is there is the first
 pub its_offer : (raw : Bool) (xs : List PortView) (k n next i : ℕ) (ss : List (Spot WaitingReply)) (d : Spot WaitingReply) (x : Offer) → AreRising 0 next (held ss) → i < length ss → d ≡ slice_index_or ss i d → holds (is_leaving raw xs k n) d ≡ true
     → ((P : WaitingReply → Bool) → Some i ≡ position (holds P) ss → x ≡ reply_offer raw xs (find P (held ss))) → OffersIts raw xs k n (held ss) x
 its_offer raw xs k n next i ss d x r l e t o =
@@ -333,24 +333,24 @@ pub searched_offer : (raw : Bool) (xs : List PortView) (ss ts us : List (Spot Wa
 searched_offer raw xs ss ts us ws place x e g f p o =
     (find (can_leave raw xs) ws, searched raw xs ws (find (can_leave raw xs) ws) refl, o (can_leave raw xs) (p ∙ ap (position (holds (can_leave raw xs))) (g ∙ sym e)) ∙ ap (λ (vs : List WaitingReply). reply_offer raw xs (find (can_leave raw xs) vs)) (ap held e ∙ f))
 
--- what the index tells is offered
+-- what the index shows is offered
 pub keyed_offer : (raw : Bool) (xs : List PortView) (below next : ℕ) (ks : List (ℕ × ℕ)) (k n : ℕ) (ws : List WaitingReply) (r : Option Offer) → IsLeast below ks (Some (k, n)) → AreKeyed raw ks ws → AreRising 0 next ws → IfSome r (OffersIts raw xs k n ws) → IfSome r (OffersFirst raw xs ws)
 keyed_offer raw xs below next ks k n ws None l h r o = o
 keyed_offer raw xs below next ks k n ws (Some x) l h r o = (Some o.0, (k, first_leaves raw xs below next ks (k, n) ws o.0 l h r o.1), o.2)
 
--- what stands at one more spot is in the index
+-- what is at one more spot is in the index
 pub keyed_next : (raw : Bool) (old new : List (ℕ × ℕ)) (ss : List (Spot WaitingReply)) (i : ℕ) (s : Spot WaitingReply) → i < length ss → s ≡ slice_index_or ss i s → ((k m : ℕ) → has_key k m old ≡ true → has_key k m new ≡ true) → AreKeyed raw new (with_value s.value [])
     → AreKeyed raw old (held (take i ss)) → AreKeyed raw new (held (take (i + 1) ss))
 keyed_next raw old new ss i s l e u k h =
     subst (λ (ts : List (Spot WaitingReply)). AreKeyed raw new (held ts)) (sym (take_more ss i s l ∙ ap (λ (t : Spot WaitingReply). take i ss ++ t ∷ []) (sym e)))
     (subst (AreKeyed raw new) (sym (held_more (take i ss) s)) (keyed_both raw new (held (take i ss)) (with_value s.value []) (keyed_more raw old new (held (take i ss)) u h) k))
 
--- one more is in the index, behind all others
+-- one more is in the index, after all others
 pub keyed_last : (raw : Bool) (old new : List (ℕ × ℕ)) (ws ys : List WaitingReply) (w : WaitingReply) (k n : ℕ) → AreKeyed raw old ws → ys ≡ ws ++ w ∷ [] → k ≡ reply_key raw w → n ≡ w.number → has_key k n new ≡ true
     → ((k m : ℕ) → has_key k m old ≡ true → has_key k m new ≡ true) → AreKeyed raw new ys
 keyed_last raw old new ws ys w k n h e f g i u = subst (AreKeyed raw new) (sym e) (keyed_both raw new ws (w ∷ []) (keyed_more raw old new ws u h) (subst (λ m. has_key m w.number new ≡ true) f (subst (λ m. has_key k m new ≡ true) g i), tt))
 
--- ---- The index of replies that are raw as it is asked
+-- ---- The index is for replies that are raw or not, as asked
 
 pub same_raw : (a b : Bool) → not (beq a b) ≡ false → a ≡ b
 same_raw true true h = refl

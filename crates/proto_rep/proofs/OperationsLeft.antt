@@ -33,7 +33,7 @@ absent (r ∷ ss) op h = go (is_of op r) h (absent ss op)
     go true h again = absurd (omega arith)
     go false h again = ap (λ (rest : List Begun). r ∷ rest) (again h)
 
--- where no name stands twice, the first is the only one
+-- where no name occurs twice, the first is the only one
 pub without_all : (op : OpName) (ws : List ReplyOperation) → occurs (map begun_of ws) op ≤ 1 → map begun_of (without_first op ws) ≡ without_begun (map begun_of ws) op
 without_all op [] h = refl
 without_all op (w ∷ ws) h = go (is_for op w) h (without_all op ws)
@@ -54,7 +54,7 @@ apart_rest s ss h op = go (is_of op s) (h op)
     go true k = omega (arith, k)
     go false k = k
 
--- where no name stands twice, it is the operation of its name
+-- where no name occurs twice, it is the operation of its name
 pub find_own : (P : ReplyOperation → Bool) (ws : List ReplyOperation) (w : ReplyOperation) → find P ws ≡ Some w → AreApart (map begun_of ws) → find (is_of w.op) (map begun_of ws) ≡ Some (begun_of w)
 find_own P [] w h a = absurd cc
 find_own P (x ∷ ws) w h a = go (P x) h (λ q. find_own P ws w q (apart_rest (begun_of x) (map begun_of ws) a))

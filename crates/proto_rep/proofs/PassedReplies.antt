@@ -1,4 +1,4 @@
--- Replies that are passed over, where the mark moves, and where one more waits or one is taken out.
+-- Replies that are passed over, when the mark moves, and when one more waits or one is taken out.
 use Rattle.std.proofs.Common.{◌≡◌, refl, ap, sym, ◌∙◌, List, [], ◌∷◌, ◌++◌, ℕ, ◌≤◌, Bool, true, false, cond, arith, filter, Some}
 use Rattle.std.specs.Prelude.{nat_lt, ◌&&◌, ◌||◌, ◌==◌}
 use Rattle.std.specs.List.{list_any}
@@ -35,7 +35,7 @@ no_more raw P a b l w h = go (nat_lt (reply_key raw w) b) refl h
     go true e h = ap (λ c. c && P w) (fewer (reply_key raw w) a b l e) ∙ h
     go false e h = absurd cc
 
--- the mark comes down
+-- the mark is lowered
 pub lower_passed : (raw : Bool) (P : WaitingReply → Bool) (a b : ℕ) (ws : List WaitingReply) → b ≤ a → list_any P (filter (is_below raw a) ws) ≡ false → list_any P (filter (is_below raw b) ws) ≡ false
 lower_passed raw P a b ws l h = any_kept P (is_below raw b) ws ∙ none_as (λ w. is_below raw a w && P w) (λ w. is_below raw b w && P w) ws (no_more raw P a b l) (sym (any_kept P (is_below raw a) ws) ∙ h)
 

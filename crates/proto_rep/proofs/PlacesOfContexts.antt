@@ -1,4 +1,4 @@
--- What becomes of the places of contexts.
+-- Changes of the places of contexts.
 use Rattle.std.proofs.Common.{◌≡◌, refl, ap, sym, ◌∙◌, subst, List, [], ◌∷◌, ◌++◌, ℕ, Bool, true, false, cond, arith, Option, Some, None, map}
 use Rattle.std.specs.Prelude.{is_some, find, filter, not, ◌||◌, ◌==◌}
 use Rattle.std.specs.Option.{option_map}

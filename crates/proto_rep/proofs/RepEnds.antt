@@ -1,4 +1,4 @@
--- What a rep stands for after an end.
+-- The history that a rep stands for after an end.
 use Rattle.std.proofs.Common.{◌≡◌, refl, ap, sym, ◌∙◌, subst, List, [], ◌∷◌, ◌++◌, ℕ, Bool, true, false, cond, arith, Option, Some, None, map}
 use Rattle.std.specs.Prelude.{find, filter, drop, not, ◌||◌, ◌==◌}
 use Rattle.std.specs.Option.{option_map}
@@ -55,7 +55,7 @@ pub the_op : (m : Reply) (t : Moment) (op : OpName) (s : Begun) → (h : Ties m 
 the_op m t op s h p =
     let q : find (is_of op) (map begun_of h.waits) ≡ Some s = rw h.pending p in find_begun op h.waits s q
 
--- no two have one name
+-- no two have the same name
 pub all_apart : (m : Reply) (t : Moment) → (h : Ties m t) → AreApart (map begun_of h.waits)
 all_apart m t h = subst (λ (ss : List Begun). AreApart ss) (sym h.pending) h.apart
 
@@ -78,7 +78,7 @@ routed_without routes op (w ∷ ws) h = go (is_for op w) (routed_without routes 
     go true k = h.1
     go false k = (h.0, k)
 
--- the operation is pending no longer
+-- the operation is no longer pending
 ended : (m n : Reply) (t : Moment) (op : OpName) → (h : Ties m t) → Holds n.waiting (without_first op h.waits) → StayPassed m.waiting.replies n.waiting.replies → n.ports ≡ m.ports → n.kept ≡ m.kept → n.places ≡ m.places → (n.raw ≡ m.raw) × (n.options ≡ m.options) × (n.role ≡ m.role)
     → Stands n (record (reading t) { pend = without_begun (pend (past t)) op })
 ended m n t op h e u p f g same =
@@ -192,7 +192,7 @@ module _ (m n : Reply) (t : Moment) (op : OpName) (s : Begun) (text : RecordedMe
 
 -- ---- What goes out
 
--- back where its request came from
+-- back to where its request came from
 goes_back : (s : Option Source) (p : ℕ) → is_origin (option_map origin_of s) p ≡ is_number (option_map (λ (x : Source). x.pipe) s) p
 goes_back None p = refl
 goes_back (Some s) p = refl

@@ -40,7 +40,7 @@ whole_is (Found words rest) h = (words, rest, refl)
 whole_is TooFar h = absurd cc
 whole_is Short h = absurd cc
 
--- what a frame with a whole backtrace is kept as
+-- the item that a frame with a whole backtrace is kept as
 item_is : (m : Reply) (t : Moment) (p : ℕ) (b : List ℕ) → Ties m t → item_in t.z p b ≡ traced_item m.raw p (back m.options.ttl b)
 item_is m t p b h =
     ap (λ (r : Role). item_for r t.z.raw t.z.options.ttl p b) (is_rep m t h) ∙ traced_for m.role t.z.raw t.z.options.ttl ∙ ap (λ (r : Bool). traced_item r p (back t.z.options.ttl b)) (is_raw m t h)
@@ -50,7 +50,7 @@ item_is m t p b h =
     traced_for sides.Rep raw ttl = refl
     traced_for sides.Respondent raw ttl = refl
 
--- whether a frame is malformed
+-- a frame is malformed, or not
 pub malformed_is : (m : Reply) (t : Moment) (p : ℕ) (b : List ℕ) → Ties m t → malformed t.z (past t) p b ≡ is_short (back m.options.ttl b)
 malformed_is m t p b h = ap (λ (r : Role). malformed_for r t.z.options.ttl b) (is_rep m t h) ∙ short_for m.role t.z.options.ttl ∙ ap (λ (o : Options). is_short (back o.ttl b)) (is_options m t h)
   where

@@ -38,7 +38,7 @@ still_full p xs (Some q) h = go xs h
 pub marked_stuck : (raw : Bool) (p : ℕ) (xs : List PortView) (v : RepliesView) → AreStuck raw xs v → AreStuck raw (map (marked p) xs) v
 marked_stuck raw p xs v h = none_as (can_leave raw xs) (can_leave raw (map (marked p) xs)) v.passed (λ w. still_full p xs (target_of raw w.answer)) h
 
--- where one more pipe is up, what goes to a full one can't go, either
+-- where one more pipe is up, what goes to a full pipe still can't go
 full_among : (x : PortView) (xs : List PortView) (to : Option ℕ) → isnt_full (where_is (xs ++ x ∷ []) to) ≡ true → isnt_full (where_is xs to) ≡ true
 full_among x xs None h = h
 full_among x xs (Some q) h = go xs h
@@ -55,7 +55,7 @@ full_among x xs (Some q) h = go xs h
 pub more_stuck : (raw : Bool) (x : PortView) (xs : List PortView) (v : RepliesView) → AreStuck raw xs v → AreStuck raw (xs ++ x ∷ []) v
 more_stuck raw x xs v h = none_as (can_leave raw xs) (can_leave raw (xs ++ x ∷ [])) v.passed (λ w. full_among x xs (target_of raw w.answer)) h
 
--- without a pipe, what goes to another goes as before
+-- without a pipe, what goes to another pipe goes as before
 others_way : (p q : ℕ) (xs : List PortView) → (q == p) ≡ false → isnt_full (where_is (filter (λ (x : PortView). not (x.pipe == p)) xs) (Some q)) ≡ true → isnt_full (where_is xs (Some q)) ≡ true
 others_way p q xs f h = ap (λ (r : Option PortView). isnt_full (way_at q r)) (sym (others xs f)) ∙ h
   where
@@ -71,7 +71,7 @@ others_way p q xs f h = ap (λ (r : Option PortView). isnt_full (way_at q r)) (s
         step true e again = let other : (x.pipe == q) ≡ false = differ x.pipe p q e f in rw other again
         step false e again = ap (λ (r : Option PortView). cond (x.pipe == q) (Some x) r) again
 
--- without a pipe that isn't full, what goes to a full one can't go, either
+-- without a pipe that isn't full, what goes to a full pipe still can't go
 full_without : (p : ℕ) (xs : List PortView) (to : Option ℕ) → isnt_full (where_is xs (Some p)) ≡ true → isnt_full (where_is (filter (λ (x : PortView). not (x.pipe == p)) xs) to) ≡ true → isnt_full (where_is xs to) ≡ true
 full_without p xs None k h = h
 full_without p xs (Some q) k h = go (q == p) refl

@@ -1,4 +1,4 @@
--- What stays of the operations of a rep where a request ends: all of it.
+-- What a request's end leaves of the operations of a rep: all of it.
 use Rattle.std.specs.Prelude.{◌≡◌, true}
 use Rattle.std.proofs.Common.{refl, false}
 use Rattle.proto_rep.specs.declared.operations.Recipient.{Recipient}

@@ -77,7 +77,7 @@ abbrev pub IsFirstSend : Bool → List PortView → List ReplyOperation → Opti
 IsFirstSend raw xs ws None = find (is_ready raw xs) ws ≡ None
 IsFirstSend raw xs ws (Some w) = (k : ℕ) × (find (is_ready_to raw xs k) ws ≡ Some w)
 
--- such a one is offered
+-- such a reply is offered
 abbrev pub SendsFirst : Bool → List PortView → List ReplyOperation → Offer → Type 0
 SendsFirst raw xs ws x = (o : Option ReplyOperation) × IsFirstSend raw xs ws o × (x ≡ send_offer raw xs o)
 
@@ -87,7 +87,7 @@ SendsFirst raw xs ws x = (o : Option ReplyOperation) × IsFirstSend raw xs ws o 
 abbrev pub count : RepOperations → ℕ
 count o = length o.receives.items + length o.replies.items
 
--- how many have room
+-- how many there is room for
 abbrev pub places : RepOperations → ℕ
 places o = min (o.receives.room + length o.receives.items) (o.replies.room + length o.replies.items)
 
@@ -95,7 +95,7 @@ places o = min (o.receives.room + length o.receives.items) (o.replies.room + len
 abbrev pub room : RepOperations → ℕ
 room o = places o - count o
 
--- just these wait, in the order of their begins
+-- exactly these wait, in the order of their begins
 pub record Holds (o : RepOperations) (ws : List ReplyOperation) : Type 0 where
   pub receives : map of_recipient o.receives.items ≡ filter is_receive ws
   pub replies : map of_reply o.replies.items ≡ filter is_reply ws

@@ -7,7 +7,7 @@ pub record ReplyContext : Type 0 where
   pub ctx : ℕ
   pub stored : Option Source
 
--- in the order of their contexts' numbers
+-- the places, in the order of their contexts' numbers
 pub record PlacesView : Type 0 where
   pub items : List ReplyContext
 

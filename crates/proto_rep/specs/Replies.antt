@@ -59,24 +59,24 @@ reply_key raw w = key_of (target_of raw w.answer)
 abbrev pub leaves_to : Bool → List PortView → ℕ → WaitingReply → Bool
 leaves_to raw xs k w = (reply_key raw w == k) && can_leave raw xs w
 
--- none can leave, or it is the first of those to its pipe
+-- no reply can leave, or this is the first of those to its pipe
 abbrev pub IsFirst : Bool → List PortView → List WaitingReply → Option WaitingReply → Type 0
 IsFirst raw xs ws None = find (can_leave raw xs) ws ≡ None
 IsFirst raw xs ws (Some w) = (k : ℕ) × (find (leaves_to raw xs k) ws ≡ Some w)
 
--- such a one is offered
+-- such a reply is offered
 abbrev pub OffersFirst : Bool → List PortView → List WaitingReply → Offer → Type 0
 OffersFirst raw xs ws x = (o : Option WaitingReply) × IsFirst raw xs ws o × (x ≡ reply_offer raw xs o)
 
 -- ---- As they are seen
 
--- in the order of their begins; those of them that are passed over; and how many more have room
+-- all that wait, in the order of their begins; those of them that are passed over; and how many more there is room for
 pub record RepliesView : Type 0 where
   pub items : List WaitingReply
   pub passed : List WaitingReply
   pub room : ℕ
 
--- the reply stands behind the others, with some number
+-- the reply comes after the others, with some number
 abbrev pub IsPushed : OpName → ℕ → PendingReply → List WaitingReply → List WaitingReply → Type 0
 IsPushed op c answer old new = (n : ℕ) × (new ≡ old ++ record { op = op; ctx = c; answer = answer; number = n } ∷ [])
 
@@ -87,7 +87,7 @@ is_reply_of op w = same_op w.op op
 abbrev pub without_reply : OpName → List WaitingReply → List WaitingReply
 without_reply op ws = without_found (is_reply_of op) ws
 
--- of those that are passed over, no more pass a test
+-- of those that are passed over, no more pass the test
 abbrev pub StayPassed : RepliesView → RepliesView → Type 0
 StayPassed old new = (P : WaitingReply → Bool) → list_any P old.passed ≡ false → list_any P new.passed ≡ false
 
@@ -108,7 +108,7 @@ reply_slot w = w.op.slot
 abbrev pub is_below : Bool → ℕ → WaitingReply → Bool
 is_below raw below w = nat_lt (reply_key raw w) below
 
--- the numbers rise from the one on, and are below the other
+-- the numbers rise from one number on, and are below the other
 abbrev pub AreRising : ℕ → ℕ → List WaitingReply → Type 0
 AreRising from next [] = ⊤
 AreRising from next (w ∷ ws) = (from ≤ w.number) × (w.number < next) × AreRising (w.number + 1) next ws
@@ -122,17 +122,17 @@ abbrev pub AreKeyed : Bool → List (ℕ × ℕ) → List WaitingReply → Type 
 AreKeyed raw ks [] = ⊤
 AreKeyed raw ks (w ∷ ws) = (has_key (reply_key raw w) w.number ks ≡ true) × AreKeyed raw ks ws
 
--- Whether their numbers rise; they are known by their slots, if it is said, and by their keys and numbers, if it is said; and so
--- many wait.
+-- The numbers rise, if `in_order` says so; the replies are known by their slots, if `known` says so, and by their keys
+-- and numbers, if `indexed` says so; and `alive` of them wait.
 pub record AreInRow (raw in_order : Bool) (next : ℕ) (known : Bool) (slots : List (ℕ × ℕ)) (indexed : Bool) (ks : List (ℕ × ℕ)) (alive : ℕ) (ws : List WaitingReply) : Type 0 where
   pub order : in_order ≡ true → AreRising 0 next ws
   pub by_slot : known ≡ true → IsIndexed reply_slot (is_known slots) ws
   pub by_key : indexed ≡ true → (in_order ≡ true) × AreKeyed raw ks ws
   pub number : alive ≡ length ws
 
--- ---- Looked for by their keys
+-- ---- Found by their keys
 
--- it has this number, may go to the pipe of this key, and that isn't up and full
+-- it has this number, may go to the pipe of this key, and the pipe isn't up and full
 abbrev pub is_leaving : Bool → List PortView → ℕ → ℕ → WaitingReply → Bool
 is_leaving raw xs k n w = (w.number == n) && leaves_to raw xs k w
 
@@ -145,7 +145,7 @@ abbrev pub IsLeast : ℕ → List (ℕ × ℕ) → Option (ℕ × ℕ) → Type 
 IsLeast from ks None = (k n : ℕ) → from ≤ k → has_key k n ks ≡ false
 IsLeast from ks (Some x) = (from ≤ x.0) × ((k n : ℕ) → from ≤ k → has_key k n ks ≡ true → (x.0 ≤ k) × (x.0 ≡ k → x.1 ≤ n))
 
--- all pairs from the one key on, and below the other, are of pipes that are full
+-- all pairs from one key on, and below the other, belong to full pipes
 abbrev pub AreFull : List PortView → ℕ → ℕ → List (ℕ × ℕ) → Type 0
 AreFull xs from to ks = (k n : ℕ) → from ≤ k → k < to → has_key k n ks ≡ true → IsFullKey xs k
 

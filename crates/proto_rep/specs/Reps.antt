@@ -1,4 +1,4 @@
--- What a rep stands for.
+-- The history that a rep stands for.
 use Rattle.std.specs.Prelude.{◌≡◌, ◌≤◌, ◌+◌, ◌==◌, ℕ, Bool, true, false, not, ⊤, if◌then◌else◌, List, [], ◌∷◌, ◌++◌, map, find, drop, Option, Some, None, is_some}
 use Rattle.std.specs.List.{list_any}
 use Rattle.std.specs.Option.{option_map}
@@ -39,7 +39,7 @@ role_of sides.Respondent = role.Respondent
 abbrev pub reply_kind : Role → Bool → Options → Kind
 reply_kind r raw options = record { role = r; raw = raw; options = options }
 
--- so many operations more can wait
+-- how many more operations can wait
 abbrev pub places_left : Reply → ℕ
 places_left m = room m.waiting
 
@@ -110,9 +110,9 @@ abbrev pub AreOfContexts : List ℕ → List Begun → Type 0
 AreOfContexts cs [] = ⊤
 AreOfContexts cs (s ∷ ss) = (has cs s.ctx ≡ true) × AreOfContexts cs ss
 
--- The machine is of this kind; knows these pipes as up and which of them are full; keeps these items; has these operations
--- pending, the oldest first, each on an open context; and has stored, with each context and with each pending send, this
--- request. None of the replies that are passed over can leave.
+-- The machine has this kind; knows these pipes as up and which of them are full; keeps these items; has these
+-- operations pending, the oldest first, each on an open context; and has stored, with each context and with each
+-- pending send, this request. None of the replies that are passed over can leave.
 pub record Shows (m : Reply) (k : Kind) (us : List ℕ) (last : ℕ) (full : ℕ → Bool) (is : List Item) (ss : List Begun) (cs : List ℕ) (st : ℕ → Option Origin) (routes : OpName → Option Origin) : Type 0 where
   pub kind : k ≡ reply_kind (role_of m.role) m.raw m.options
   pub most : m.options.ttl ≤ 15

@@ -1,4 +1,4 @@
--- What a rep does when an operation is won, as each machine must, and what it has for a reply that goes nowhere.
+-- What a rep does when an operation is won, as each machine must, and the message of a reply that goes nowhere.
 use Rattle.std.specs.Prelude.{◌≡◌, true, ℕ, List, Option, Some, None, MatchOption}
 use Rattle.std.specs.Option.{option_map}
 use Rattle.sp_base.specs.declared.OpName.{OpName}
@@ -16,7 +16,7 @@ use Rattle.sp_proto.specs.Machines.{CanGive, CanSend, CanDrop, Served}
 use Rattle.proto_rep.specs.declared.rep.Reply.{Reply}
 use Rattle.proto_rep.specs.Reps.{Ties, offers_left, places_left}
 
--- an offer less, and a place more
+-- one offer fewer, and one place more
 abbrev pub HasServed : Reply → Reply → Type 0
 HasServed old new = Served (offers_left old) (offers_left new) (places_left old) (places_left new)
 

@@ -1,7 +1,7 @@
 //! The operations of a rep that wait: its receives, and its replies.
 //!
-//! They are kept apart, so that a look at the replies passes no receive. Contracts see all of them in the order of
-//! their begins (`Holds`).
+//! They are kept separately, so that a search of the replies passes no receive. Contracts see all of them in the order
+//! of their begins (`Holds`).
 ghost use Rattle.std.specs.Prelude.{◌≡◌, ◌≤◌, ◌<◌, ◌+◌, ◌++◌, ◌∷◌, ℕ, List, [], false, find, map, IfOk, IfSome, OnOk};
 ghost use Rattle.std.specs.Option.{option_map};
 ghost use Rattle.std.specs.List.{list_any};
@@ -104,7 +104,7 @@ fn of_reply(w: WaitingReply) -> ReplyOperation
     }
 }
 
-// So many, and as many as the others are.
+// The sum of `more` and `others`.
 fn beside(more: u32, others: usize) -> Result<u32, NoMemory>
     ensures { IfOk result (λ n. more + others ≤ n) }
 {
@@ -118,7 +118,7 @@ fn beside(more: u32, others: usize) -> Result<u32, NoMemory>
 }
 
 impl RepOperations {
-    /// None waits.
+    /// No operations.
     pub fn new(alloc: Global, raw: bool) -> RepOperations
         ensures none { Holds result [] }
         ensures passed { result.replies.passed ≡ [] }
@@ -136,14 +136,14 @@ impl RepOperations {
         self.receives.first_receive()
     }
 
-    /// A receive of the context waits.
+    /// Returns whether a receive of the context waits.
     pub fn is_receiving(&self, c: Ctx) -> bool
         ensures { (ws : List ReplyOperationType) → Holds self.now ws → result ≡ list_any (receives_on c) ws }
     {
         self.receives.is_receiving(c)
     }
 
-    /// The first of all replies to its pipe goes out, or nowhere, where that isn't up and full.
+    /// Offers the first of all replies whose pipe isn't up and full: it goes out, or nowhere.
     pub fn next_reply(&mut self, raw: bool, ports: &Ports) -> Offer
         ensures same { (ws : List ReplyOperationType) → Holds self.old ws → Holds self.new ws }
         ensures count { count self.new ≡ count self.old }
@@ -154,7 +154,7 @@ impl RepOperations {
         self.replies.next(raw, ports)
     }
 
-    /// No reply is passed over.
+    /// Makes no reply passed over.
     pub fn pass_none(&mut self)
         ensures same { (ws : List ReplyOperationType) → Holds self.old ws → Holds self.new ws }
         ensures count { count self.new ≡ count self.old }
@@ -164,7 +164,7 @@ impl RepOperations {
         self.replies.pass_none();
     }
 
-    /// No reply that may go to this pipe is passed over.
+    /// Makes no reply that may go to this pipe passed over.
     pub fn pass_below(&mut self, raw: bool, p: PipeId)
         ensures same { (ws : List ReplyOperationType) → Holds self.old ws → Holds self.new ws }
         ensures count { count self.new ≡ count self.old }
@@ -175,7 +175,7 @@ impl RepOperations {
         self.replies.pass_below(raw, p);
     }
 
-    /// Takes the room for so many more.
+    /// Takes the memory for `more` more operations.
     pub fn reserve(&mut self, more: u32) -> Result<(), NoMemory>
         ensures same { (ws : List ReplyOperationType) → Holds self.old ws → Holds self.new ws }
         ensures passed { StayPassed self.old.replies self.new.replies }
@@ -195,7 +195,7 @@ impl RepOperations {
         }
     }
 
-    /// One more waits, the last of all.
+    /// Adds an operation, as the last one.
     pub fn push(&mut self, w: ReplyOperation)
         requires { 0 < room self.old }
         ensures more { (ws : List ReplyOperationType) → Holds self.old ws → Holds self.new (ws ++ w ∷ []) }

@@ -43,14 +43,14 @@ impl Places {
         }
     }
 
-    /// The context is open.
+    /// Returns whether the context is open.
     pub fn has(&self, c: Ctx) -> bool
         ensures { result ≡ list_any (is_of_context c) self.now.items }
     {
         self.stored.contains_key(&c.0)
     }
 
-    /// A request is stored with the context.
+    /// Returns whether a request is stored with the context.
     pub fn is_stored(&self, c: Ctx) -> bool
         ensures { result ≡ is_some (origin_at c self.now.items) }
     {
@@ -71,7 +71,7 @@ impl Places {
         }
     }
 
-    /// Takes the request away that is stored with the context.
+    /// Takes out the request that is stored with the context.
     pub fn unstore(&mut self, c: Ctx) -> Option<Source>
         ensures ctxs { map ctx_of self.new.items ≡ map ctx_of self.old.items }
         ensures result { option_map origin_of result ≡ origin_at c self.old.items }
@@ -83,7 +83,7 @@ impl Places {
         }
     }
 
-    /// No request is stored with any context.
+    /// Removes the requests that are stored with all contexts.
     pub fn forget_all(&mut self)
         ensures ctxs { map ctx_of self.new.items ≡ map ctx_of self.old.items }
         ensures stored { (d : ℕ) → origin_at d self.new.items ≡ None }
@@ -94,7 +94,7 @@ impl Places {
         });
     }
 
-    // The number of the context is above those of all that are open.
+    // Returns whether the number of the context is above those of all that are open.
     fn is_above_all(&self, c: Ctx) -> bool
         ensures { list_all (is_before ctx_of c) self.now.items ≡ true → result ≡ true }
     {
@@ -104,8 +104,8 @@ impl Places {
         }
     }
 
-    /// The context is open from now on. Its number is above all others; one that isn't is that of no new context. Where
-    /// there is no memory, all is as before.
+    /// Opens the context. Its number is above all others; otherwise it isn't the number of a new context. Out of memory
+    /// nothing changes.
     pub fn open(&mut self, c: Ctx) -> Result<(), NoMemory>
         ensures more { OnOk result (list_all (is_before ctx_of c) self.old.items ≡ true → self.new.items ≡ self.old.items ++ record { ctx = c; stored = None } ∷ []) }
         ensures same { OnErr result (self.new.items ≡ self.old.items) }
@@ -119,11 +119,11 @@ impl Places {
         }
     }
 
-    /// The context is open no longer.
+    /// Removes the context, which is no longer open.
     pub fn close(&mut self, c: Ctx)
         ensures { self.new.items ≡ filter (λ (x : ReplyContext). not (is_of_context c x)) self.old.items }
     {
-        // Gives the proof that the keys are in order.
+        // Brings into the proof that the keys are in order.
         let _len = self.stored.len();
         let _ = self.stored.remove(&c.0);
     }

@@ -28,7 +28,7 @@ use sp_msg::Message;
 use sp_proto::{Act, CheckError, Offer, Proto, UpFault, Verb, Verdict};
 use std::alloc::Global;
 
-/// A request that is kept. Raw, its pipe and its words stand in the header as well.
+/// A request that is kept. Raw, its pipe and its words are also in the header.
 #[derive(Drop)]
 struct KeptRequest {
     pipe: PipeId,
@@ -51,7 +51,7 @@ pub struct Source {
     pub words: BacktraceWords,
 }
 
-/// Which of the two it is.
+/// The role: rep or respondent.
 #[derive(Clone, Copy, PartialEq, Eq, Debug)]
 enum ReplyRole {
     Rep,
@@ -66,11 +66,11 @@ pub struct Reply {
     raw: bool,
     options: Options,
     ports: Ports,
-    /// Requests.
+    /// The requests that are kept.
     kept: Backlog<KeptRequest>,
     /// The operations that wait.
     waiting: RepOperations,
-    /// Of the open contexts.
+    /// The places of the open contexts.
     places: Places,
 }
 
@@ -85,7 +85,7 @@ fn answer_of(act: Act, source: Option<Source>) -> Option<PendingReply>
     }
 }
 
-// What goes out for a send.
+// The message that goes out for a send.
 fn outward(raw: bool, answer: PendingReply) -> Message
     ensures { wire_text result ≡ out_text raw answer }
 {
@@ -104,7 +104,7 @@ fn outward(raw: bool, answer: PendingReply) -> Message
     message
 }
 
-// What a reply that was won puts on the pipe. One that goes nowhere has none.
+// The message that a reply that was won puts on the pipe. A reply that goes nowhere has none.
 fn put_out(raw: bool, answer: PendingReply, out: Option<PipeId>) -> Option<Message>
     ensures nothing { out ≡ None → result ≡ None }
     ensures message { (p : ℕ) (b : List ℕ) → out ≡ Some p → out_text raw answer ≡ b → MatchOption result ⊥ (λ m. wire_text m ≡ b) }
@@ -143,7 +143,7 @@ fn traced(alloc: Global, raw: bool, ttl: u8, p: PipeId, m: Message) -> Result<Ke
     }
 }
 
-// A machine to which nothing has happened.
+// A new machine.
 fn unused(alloc: Global, role: ReplyRole, options: Options, raw: bool) -> Result<Reply, NoMemory>
     requires { Fits options }
     ensures { IfOk result (λ m. Starts Ties m (reply_kind (role_of role) raw options)) }
@@ -167,7 +167,7 @@ fn unused(alloc: Global, role: ReplyRole, options: Options, raw: bool) -> Result
 pub struct Respond;
 
 impl Respond {
-    /// A respondent to which nothing has happened.
+    /// A new respondent.
     pub fn new(alloc: Global, options: Options, raw: bool) -> Result<Reply, NoMemory>
         requires { Fits options }
         ensures { IfOk result (λ m. Starts Ties m (reply_kind role.Respondent raw options)) }
@@ -177,7 +177,7 @@ impl Respond {
 }
 
 impl Reply {
-    /// A rep to which nothing has happened.
+    /// A new rep.
     pub fn new(alloc: Global, options: Options, raw: bool) -> Result<Reply, NoMemory>
         requires { Fits options }
         ensures { IfOk result (λ m. Starts Ties m (reply_kind role.Rep raw options)) }
@@ -207,7 +207,7 @@ impl Reply {
         }
     }
 
-    // The state of the context has no place for it.
+    // Returns whether the state of the context doesn't allow it.
     fn has_state(&self, c: Ctx, verb: Verb) -> bool
         ensures { (ws : List ReplyOperationType) → Holds self.now.waiting ws → result ≡ state_at ws self.now.places.items c verb }
     {
@@ -274,7 +274,7 @@ impl Proto for Reply {
         !self.kept.has(p)
     }
 
-    /// One that came too far takes no memory, and its pipe stays.
+    /// A frame that came too far takes no memory, and its pipe stays up.
     fn frame(&mut self, p: PipeId, m: Message) -> Verdict
         requires { m.header ≡ [] }
         ensures kept { (t : Moment) → Lawful (also t (Frame p m.body)) → Ties self.old t → Frames (Ties self.new) result t p m.body }
@@ -312,7 +312,7 @@ impl Proto for Reply {
         Ok(())
     }
 
-    /// It has the place of the operation, so it is never out of memory for one.
+    /// Never out of memory: there is already a place for the operation.
     fn begin(&mut self, op: OpName, c: Ctx, act: Act) -> Result<(), Message>
         requires { 0 < places_left self.old }
         ensures begun { OnOk result ((t : Moment) (deadline : Option ℕ) → NoFlood t → Takes (Ties self.old) (Ties self.new) t (Begin op t.caller c (entry_act act) deadline)) }

@@ -1,14 +1,14 @@
 //! Replies that wait for their pipes.
 //!
-//! They stand in the order of their begins, each at a spot that it leaves behind when it ends. Where nothing stands at
-//! half of the spots, the others are closed up, so that going over all of them costs no more than there are. By the
-//! slot of its name the number of a reply's spot is known, and by that the spot is found by halving.
+//! They are kept in the order of their begins, each at a spot that is empty when it ends. When half of the spots are
+//! empty, the others are moved together, so that going over all spots costs no more than there are replies. The slot of
+//! a reply's name gives the number of its spot, and the spot is found from that by halving.
 //!
 //! An index has each of them by its pipe and its number. All whose pipes come before a mark are passed over: those
-//! pipes were found full in this turn. So a turn costs a look for each pipe at which replies wait, and not one for each
+//! pipes were found full in this turn. So a turn costs one look for each pipe at which replies wait, not one for each
 //! reply. A new turn sets the mark back to the start. A reply that begins sets it back to its pipe, and so does a pipe
 //! that goes down and was full. The index takes memory. Where there is none, the replies are searched through, until
-//! one that begins finds memory for all.
+//! there is memory for all when one begins.
 ghost use Rattle.std.specs.Prelude.{◌≡◌, ◌≤◌, ◌<◌, ◌+◌, ◌^◌, ◌++◌, ◌∷◌, ℕ, Bool, List, [], Some, true, false, not, find, filter, length, option_to_list, OnOk, IfSome};
 ghost use Rattle.std.specs.List.{position, list_any};
 ghost use Rattle.proto_requests.specs.Ports.{where_is};
@@ -29,7 +29,7 @@ use std::alloc::Global;
 use std::collections::BTreeSet;
 use std::marker::Model;
 
-/// What a send is to send: its message, as it was begun, and, cooked, the request that it answers (nng_rep(7)).
+/// The contents of a send: its message, as it was begun, and, cooked, the request that it answers (nng_rep(7)).
 #[derive(Drop)]
 pub struct PendingReply {
     pub message: Message,
@@ -90,25 +90,25 @@ impl Waiter for WaitingReply {
 /// Replies that wait (nng_aio(5)).
 #[derive(Drop)]
 pub struct WaitingReplies {
-    /// Their pipes stand in their headers.
+    /// Whether their pipes are in their headers.
     raw: bool,
-    /// In the order of their begins.
+    /// The replies, in the order of their begins.
     list: Vec<Spot<WaitingReply>>,
     /// The number of the next spot.
     next: u64,
-    /// The numbers rise.
+    /// Whether the numbers rise.
     in_order: bool,
     /// The numbers of their spots by their slots.
     by_slot: Numbers,
-    /// All slots are known, and no two have one.
+    /// Whether all slots are known, and no two replies have the same one.
     slots_known: bool,
-    /// So many wait.
+    /// The number of replies that wait.
     alive: usize,
-    /// The key of the pipe of each, with its number.
+    /// For each reply, the key of its pipe with its number.
     index: BTreeSet<(u64, u64)>,
-    /// All are in the index.
+    /// Whether all replies are in the index.
     is_indexed: bool,
-    /// Those whose keys are below this are passed over.
+    /// The mark: replies whose keys are below it are passed over.
     below: u64,
 }
 
@@ -127,7 +127,7 @@ impl Model for WaitingReplies {
 
 // ---- Where one goes
 
-/// The pipe is up, and was found full in this turn.
+/// Returns whether the pipe is up, and was found full in this turn.
 pub fn is_full(ports: &Ports, p: PipeId) -> bool
     ensures { result ≡ not (isnt_full (where_is ports.now.items (Some p))) }
 {
@@ -157,14 +157,14 @@ fn way_of(raw: bool, ports: &Ports, answer: &PendingReply) -> Destination
     ports.way_to(target_of(raw, answer))
 }
 
-// Whether its pipe isn't up and full.
+// Returns whether its pipe isn't up and full.
 fn can_leave(raw: bool, ports: &Ports, w: &WaitingReply) -> bool
     ensures { result ≡ can_leave raw ports.now.items w.now }
 {
     way_of(raw, ports, &w.answer) != Destination::Full
 }
 
-// The same of a spot.
+// The same for a spot.
 fn can_leave_at(raw: bool, ports: &Ports, s: &Spot<WaitingReply>) -> bool
     ensures { result ≡ holds (can_leave raw ports.now.items) s.now }
 {
@@ -174,14 +174,14 @@ fn can_leave_at(raw: bool, ports: &Ports, s: &Spot<WaitingReply>) -> bool
     }
 }
 
-// Where the first such reply stands.
+// The place of the first such reply.
 fn leaving_place(raw: bool, ports: &Ports, list: &[Spot<WaitingReply>]) -> Option<usize>
     ensures { result ≡ position (holds (can_leave raw ports.now.items)) list.now }
 {
     list.iter().position(|s| can_leave_at(raw, ports, s))
 }
 
-// It goes out, or nowhere.
+// The offer for the reply: it goes out, or nowhere.
 fn offer_of(raw: bool, ports: &Ports, w: &WaitingReply) -> Offer
     ensures { result ≡ way_offer w.now.op (way_of raw ports.now.items w.now.answer) }
 {
@@ -192,7 +192,7 @@ fn offer_of(raw: bool, ports: &Ports, w: &WaitingReply) -> Offer
     }
 }
 
-// The same of the one that stands there.
+// The same for the reply at this place.
 fn offer_at(raw: bool, ports: &Ports, list: &[Spot<WaitingReply>], place: Option<usize>) -> Offer
     ensures { (P : WaitingReplyType → Bool) → place ≡ position (holds P) list.now → result ≡ reply_offer raw ports.now.items (find P (held list.now)) }
 {
@@ -229,7 +229,7 @@ fn reply_key(raw: bool, answer: &PendingReply) -> u64
     key_of(target_of(raw, answer))
 }
 
-// The pipe of this key is up, and was found full in this turn.
+// Returns whether the pipe of this key is up, and was found full in this turn.
 fn is_full_key(ports: &Ports, k: u64) -> bool
     ensures full { result ≡ true → IsFullKey ports.now.items k }
     ensures small { result ≡ true → k ≤ 2 ^ 32 }
@@ -251,7 +251,7 @@ fn lower(a: u64, b: u64) -> u64
     if b < a { b } else { a }
 }
 
-// The number behind this one, and whether the numbers still rise.
+// The next number, and whether the numbers still rise.
 fn behind(n: u64, in_order: bool) -> (u64, bool)
     ensures { result.1 ≡ true → (in_order ≡ true) × (result.0 ≡ n + 1) }
 {
@@ -263,7 +263,7 @@ fn behind(n: u64, in_order: bool) -> (u64, bool)
 
 // ---- The index
 
-// The pair is in it, and so are those that were. Out of memory it is empty.
+// Adds the pair to the index. Returns false when out of memory; then the index is empty.
 fn put(index: &mut BTreeSet<(u64, u64)>, key: u64, n: u64) -> bool
     ensures it { result ≡ true → has_key key n index.new.keys ≡ true }
     ensures others { result ≡ true → (k m : ℕ) → has_key k m index.old.keys ≡ true → has_key k m index.new.keys ≡ true }
@@ -275,14 +275,14 @@ fn put(index: &mut BTreeSet<(u64, u64)>, key: u64, n: u64) -> bool
     true
 }
 
-// The pair is no longer in it.
+// Removes the pair from the index.
 fn take_key(index: &mut BTreeSet<(u64, u64)>, key: u64, n: u64)
     ensures { (k m : ℕ) → (m ≡ n → ⊥) → has_key k m index.old.keys ≡ true → has_key k m index.new.keys ≡ true }
 {
     index.remove(&(key, n));
 }
 
-// The first from this key on.
+// The first pair from this key on.
 fn first_from(index: &BTreeSet<(u64, u64)>, from: u64) -> Option<(u64, u64)>
     ensures { IsLeast from index.now.keys result }
 {
@@ -292,13 +292,13 @@ fn first_from(index: &BTreeSet<(u64, u64)>, from: u64) -> Option<(u64, u64)>
     }
 }
 
-/// Where the keys of full pipes end, and the first from there on.
+/// The end of the keys of full pipes, and the first pair from there on.
 struct FirstRoomy {
     below: u64,
     first: Option<(u64, u64)>,
 }
 
-// From this key on.
+// Searches from this key on.
 fn first_open(index: &BTreeSet<(u64, u64)>, ports: &Ports, from: u64) -> FirstRoomy
     ensures full { AreFull ports.now.items from result.below index.now.keys }
     ensures first { IsLeast result.below index.now.keys result.first }
@@ -316,7 +316,7 @@ fn first_open(index: &BTreeSet<(u64, u64)>, ports: &Ports, from: u64) -> FirstRo
     FirstRoomy { below, first: None }
 }
 
-// What stands there is in the index, and so are those that were.
+// Adds what is at the spot to the index.
 fn put_spot(index: &mut BTreeSet<(u64, u64)>, raw: bool, s: &Spot<WaitingReply>) -> bool
     ensures it { result ≡ true → AreKeyed raw index.new.keys (with_value s.now.value []) }
     ensures others { result ≡ true → (k m : ℕ) → has_key k m index.old.keys ≡ true → has_key k m index.new.keys ≡ true }
@@ -327,7 +327,7 @@ fn put_spot(index: &mut BTreeSet<(u64, u64)>, raw: bool, s: &Spot<WaitingReply>)
     }
 }
 
-// All are in the index.
+// Adds all replies to the index.
 fn put_all(index: &mut BTreeSet<(u64, u64)>, raw: bool, list: &[Spot<WaitingReply>]) -> bool
     ensures { result ≡ true → AreKeyed raw index.new.keys (held list.now) }
 {
@@ -340,7 +340,8 @@ fn put_all(index: &mut BTreeSet<(u64, u64)>, raw: bool, list: &[Spot<WaitingRepl
     true
 }
 
-// All are in the index, where all but the last are, if it is said. None are where their numbers don't rise.
+// Adds the last reply to the index where `is_indexed` says that all others are in it, and all replies otherwise. None
+// are in it where the numbers don't rise.
 fn put_last(
     index: &mut BTreeSet<(u64, u64)>,
     raw: bool,
@@ -363,14 +364,14 @@ fn put_last(
     put_all(index, raw, list)
 }
 
-// It has this number, may go to the pipe of this key, and that isn't up and full.
+// Returns whether it has this number, may go to the pipe of this key, and the pipe isn't up and full.
 fn is_leaving(raw: bool, ports: &Ports, w: &WaitingReply, key: u64, n: u64) -> bool
     ensures { result ≡ is_leaving raw ports.now.items key n w.now }
 {
     w.number == n && reply_key(raw, &w.answer) == key && can_leave(raw, ports, w)
 }
 
-// The same of a spot.
+// The same for a spot.
 fn is_leaving_at(raw: bool, ports: &Ports, s: &Spot<WaitingReply>, key: u64, n: u64) -> bool
     ensures { result ≡ holds (is_leaving raw ports.now.items key n) s.now }
 {
@@ -380,7 +381,7 @@ fn is_leaving_at(raw: bool, ports: &Ports, s: &Spot<WaitingReply>, key: u64, n: 
     }
 }
 
-// The one of this number goes out, or nowhere, if it may go to the pipe of this key, and that isn't up and full.
+// Offers the reply of this number, if it may go to the pipe of this key, and the pipe isn't up and full.
 fn offer_by(
     raw: bool,
     ports: &Ports,
@@ -399,7 +400,7 @@ fn offer_by(
     None
 }
 
-// The same of the first from a mark on. Where there is none, none can leave.
+// The same for the first one from a mark on. Where there is none, none can leave.
 fn offer_first(
     raw: bool,
     ports: &Ports,
@@ -415,7 +416,7 @@ fn offer_first(
 }
 
 impl WaitingReplies {
-    /// None waits, and none has room.
+    /// No replies, and no room for any.
     pub fn new(alloc: Global, raw: bool) -> WaitingReplies
         ensures items { result.items ≡ [] }
         ensures passed { result.passed ≡ [] }
@@ -434,14 +435,14 @@ impl WaitingReplies {
         }
     }
 
-    /// How many wait.
+    /// The number of replies that wait.
     pub fn len(&self) -> usize
         ensures { result ≡ length self.now.items }
     {
         self.alive
     }
 
-    /// None is passed over.
+    /// Makes no reply passed over.
     pub fn pass_none(&mut self)
         ensures items { self.new.items ≡ self.old.items }
         ensures room { self.new.room ≡ self.old.room }
@@ -450,7 +451,7 @@ impl WaitingReplies {
         self.below = 0;
     }
 
-    /// None that may go to this pipe is passed over.
+    /// Makes no reply that may go to this pipe passed over.
     pub fn pass_below(&mut self, raw: bool, p: PipeId)
         ensures items { self.new.items ≡ self.old.items }
         ensures room { self.new.room ≡ self.old.room }
@@ -464,7 +465,7 @@ impl WaitingReplies {
         self.below = lower(self.below, key_of(Some(p)));
     }
 
-    /// The first of all to its pipe goes out, or nowhere, where that isn't up and full.
+    /// Offers the first of all replies whose pipe isn't up and full: it goes out, or nowhere.
     pub fn next(&mut self, raw: bool, ports: &Ports) -> Offer
         ensures items { self.new.items ≡ self.old.items }
         ensures room { self.new.room ≡ self.old.room }
@@ -477,7 +478,7 @@ impl WaitingReplies {
         }
     }
 
-    // The same by the index, if all are there.
+    // The same by the index, if all replies are in it.
     fn next_by_key(&mut self, raw: bool, ports: &Ports) -> Option<Offer>
         ensures items { self.new.items ≡ self.old.items }
         ensures room { self.new.room ≡ self.old.room }
@@ -507,7 +508,7 @@ impl WaitingReplies {
         )
     }
 
-    /// Takes the room for so many more.
+    /// Takes the memory for `more` more replies.
     pub fn reserve(&mut self, more: u32) -> Result<(), NoMemory>
         ensures items { self.new.items ≡ self.old.items }
         ensures passed { StayPassed self.old self.new }
@@ -521,7 +522,7 @@ impl WaitingReplies {
         }
     }
 
-    /// One more waits, the last of all.
+    /// Adds a reply, as the last one.
     pub fn push(&mut self, op: OpName, ctx: Ctx, answer: PendingReply)
         requires { 0 < self.old.room }
         ensures items { IsPushed op ctx answer self.old.items self.new.items }
@@ -579,7 +580,7 @@ impl WaitingReplies {
         }
     }
 
-    // Where nothing stands at half of the spots, the others are closed up.
+    // When half of the spots are empty, moves the others together.
     fn close_up(&mut self)
         ensures items { self.new.items ≡ self.old.items }
         ensures passed { StayPassed self.old self.new }

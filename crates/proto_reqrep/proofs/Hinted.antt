@@ -1,4 +1,4 @@
--- Contexts that are to be looked at: what keeps it so that each is among them.
+-- Contexts that are to be looked at: what keeps each of them among the hints.
 use Rattle.std.proofs.Common.{◌≡◌, refl, ap, sym, subst, ◌∙◌, List, [], ◌∷◌, ◌++◌, ℕ, Bool, true, false, cond, Option, Some, None, map, inl, inr}
 use Rattle.std.specs.Prelude.{◌⊎◌, find, not, is_some, drop, ◌&&◌, ◌||◌, ◌==◌}
 use Rattle.std.specs.List.{list_any}
@@ -67,7 +67,7 @@ module _ (q : ℕ) where
       go true f = refl
       go false f = let bad : true ≡ false = sym h ∙ any_more (keeps_reply q) xs ys x e f k in absurd cc
 
-  -- with one reply more
+  -- with one more reply
   pub keeps_more : (id : ℕ) (k : KeptReply) (xs : List Live) → list_any (keeps_reply q) (with_reply id k xs) ≡ true → (list_any (keeps_reply q) xs ≡ true) ⊎ (option_map live_ctx (find (waits_for id) xs) ≡ Some q)
   keeps_more id k [] h = inl h
   keeps_more id k (x ∷ xs) h = go (waits_for id x) h (keeps_more id k xs)
@@ -202,7 +202,7 @@ dropped_receives whole c cs xs (w ∷ ws) n r =
     go false e n m again =
         ap (λ b. b || list_any (is_missed (record { whole = whole; items = cs }) xs) ws) (this (is_sending w) (list_any (keeps_reply w.ctx) xs) (c == w.ctx) (w.ctx == c) (has cs w.ctx) e (turned (c == w.ctx) refl) m) ∙ again n
 
--- one that gets none is looked at no more
+-- one that gets none is no longer looked at
 pub ready_dropped : (h g : HintsView ℕ) (xs : List Live) (ws : List Asking) (c : ℕ) → Some c ≡ head_of h.items → g ≡ record { whole = h.whole; items = drop 1 h.items } → None ≡ ready_on xs ws c → AreReady h xs ws → AreReady g xs ws
 ready_dropped h g xs ws c e f n r = rw f (go h.items e r)
   where
@@ -215,7 +215,7 @@ ready_dropped h g xs ws c e f n r = rw f (go h.items e r)
     go [] e r = absurd cc
     go (i ∷ is) e r = let same : c ≡ i = some_is c i e in gone (list_any (keeps_reply c) xs) refl (find (is_receiving_on c) ws) refl n is (rw same r)
 
--- one receive more waits
+-- one more receive waits
 pub ready_begun : (h g : HintsView ℕ) (xs : List Live) (ws : List Asking) (w : Asking) (c : ℕ) → w.ctx ≡ c → ((q : ℕ) → covers h q ≡ true → covers g q ≡ true) → (covers g c ≡ true) ⊎ (list_any (keeps_reply c) xs ≡ false) → AreReady h xs ws → AreReady g xs (ws ++ w ∷ [])
 ready_begun h g xs ws w c e s o r = ready_more g xs ws (ws ++ w ∷ []) w refl (rw e at_it) (ready_answered h g xs xs ws s (λ q k. inl k) r)
   where
@@ -235,7 +235,7 @@ ready_begun h g xs ws w c e s o r = ready_more g xs ws (ws ++ w ∷ []) w refl (
     at_it : ((not (is_sending w) && list_any (keeps_reply c) xs) && not (covers g c)) ≡ false
     at_it = go o
 
--- one reply more is kept
+-- one more reply is kept
 pub ready_kept : (h g : HintsView ℕ) (xs ys : List Live) (ws : List Asking) (id : ℕ) (k : KeptReply) (c : ℕ) → ys ≡ with_reply id k xs → Some c ≡ option_map live_ctx (find (waits_for id) xs) → covers g c ≡ true → ((q : ℕ) → covers h q ≡ true → covers g q ≡ true) → AreReady h xs ws → AreReady g ys ws
 ready_kept h g xs ys ws id k c e f v s r = ready_answered h g xs ys ws s (λ q n. go q (keeps_more q id k xs (ap (list_any (keeps_reply q)) (sym e) ∙ n))) r
   where

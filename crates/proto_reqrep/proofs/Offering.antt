@@ -70,7 +70,7 @@ none_any P (x ∷ xs) h = go (P x) h (none_any P xs)
     go true h again = absurd cc
     go false h again = again h
 
--- where no name stands twice, it is the operation of its name
+-- where no name occurs twice, it is the operation of its name
 find_own : (P : Asking → Bool) (ws : List Asking) (w : Asking) → find P ws ≡ Some w → AreApart (map begun_of ws) → find (is_of w.op) (map begun_of ws) ≡ Some (begun_of w)
 find_own P [] w h a = absurd cc
 find_own P (x ∷ ws) w h a = go (P x) h (λ q. find_own P ws w q (rest_apart a))
@@ -173,7 +173,7 @@ nil_is (x ∷ xs) = more (length xs)
     more : (n : ℕ) → false ≡ (suc n == 0)
     more n = grind (arith, nat_tests)
 
--- a raw req without a message gives none, and else its first receive
+-- a raw req without a message gives none; otherwise its first receive gets it
 pub raw_none : (m : Machine) → m.raw ≡ true → is_nil m.kept.items ≡ true → None ≡ option_map (λ (w : Asking). w.op) (find (gets m) m.waiting.items)
 raw_none m r e = sym (ap (option_map (λ (w : Asking). w.op)) (ap (λ b. find (λ (v : Asking). not (is_sending v) && is_given b m.kept.items m.live.items v.ctx) m.waiting.items) r ∙ ap (λ b. find (λ (v : Asking). not (is_sending v) && not b) m.waiting.items) e ∙ none m.waiting.items))
   where
@@ -397,7 +397,7 @@ next_is full last us x f = go (find (is_free_behind last) (map (port_of full) us
     go None e k = free_is full us x k
     go (Some y) e k = behind_is full last us x (e ∙ k)
 
--- the first of the pipes, by their numbers
+-- the first of the pipes, by number
 find_mapped : (P : PortView → Bool) (full : ℕ → Bool) (us : List ℕ) → find P (map (port_of full) us) ≡ option_map (port_of full) (find (λ q. P (port_of full q)) us)
 find_mapped P full [] = refl
 find_mapped P full (u ∷ us) = go (P (port_of full u)) (find_mapped P full us)
@@ -416,7 +416,7 @@ next_mapped full last us =
     ap (λ (o : Option PortView). or_else o (find is_free (map (port_of full) us))) (find_mapped (is_free_behind last) full us)
     ∙ ap (or_else (option_map (port_of full) (find (λ q. is_free_behind last (port_of full q)) us))) (find_mapped is_free full us) ∙ or_mapped (port_of full) _ _
 
--- one can be taken if it is up and not full
+-- a pipe can be taken if it is up and not full
 way_is : (full : ℕ → Bool) (p : ℕ) (us : List ℕ) → way_of (way_at p (find (is_pipe p) (map (port_of full) us))) ≡ passing (λ q. has us q && not (full q)) (Some p)
 way_is full p [] = refl
 way_is full p (u ∷ us) = go (u == p) refl (way_is full p us)
@@ -434,13 +434,13 @@ ways_are : (full : ℕ → Bool) (us : List ℕ) (o : Option ℕ) → way_of (wh
 ways_are full us None = refl
 ways_are full us (Some p) = way_is full p us
 
--- the roomy one that is taken
+-- the roomy pipe that is taken
 roomy_is : (m : Machine) (t : Moment) → Ties m t → roomy_port m ≡ passing (has_room t) (next_of (out_last (past t)) (roomy_of m))
 roomy_is m t h =
     ap (λ (ps : List PortView). way_of (where_is ps (next_of m.last_pipe (roomy_of m)))) h.1.ports ∙ ways_are (λ q. has_full t.turn q) (up (past t)) (next_of m.last_pipe (roomy_of m))
     ∙ ap (λ n. passing (has_room t) (next_of n (roomy_of m))) h.0.outs
 
--- the next of all
+-- the next of all pipes
 round_is : (m : Machine) (t : Moment) → Ties m t → option_map (λ (x : PortView). x.pipe) (next_port m.last_pipe m.ports.items) ≡ next_pipe (λ q. not (has_full t.turn q)) (out_last (past t)) (up (past t))
 round_is m t h =
     ap (λ (o : Option PortView). option_map (λ (x : PortView). x.pipe) o)
@@ -451,7 +451,7 @@ round_is m t h =
     number None = refl
     number (Some n) = refl
 
--- it is the next in the round
+-- it is the next one in the round
 pub is_next : (m : Machine) (t : Moment) (p : ℕ) → Ties m t → Some p ≡ chosen_port m → IsNextPipe (roomy_of m) t p
 is_next m t p h f =
     sym (f ∙ ap (λ (o : Option ℕ). or_else o (option_map (λ (x : PortView). x.pipe) (next_port m.last_pipe m.ports.items))) (roomy_is m t h) ∙ ap (or_else (passing (has_room t) (next_of (out_last (past t)) (roomy_of m)))) (round_is m t h))
@@ -548,7 +548,7 @@ can_send m t w p h o f u n = go w.message refl
           },
         )
 
--- the request that is found is that of its context
+-- the request that is found is the one of its context
 pub found_alone : (P : Live → Bool) (xs : List Live) (x : Live) → AreDistinct (map live_ctx xs) → find P xs ≡ Some x → find (is_live_on x.ctx) xs ≡ Some x
 found_alone P [] x d f = absurd cc
 found_alone P (y ∷ xs) x d f = go (P y) f (found_alone P xs x d.1)
@@ -672,9 +672,9 @@ ties_ready m n t e k h = subst (λ (x : Machine). Ties x t) (sym e) (h.0, h.1, h
 pub ties_dues : (m n : Machine) (t : Moment) → n ≡ record m { dues = n.dues } → (IsSeen m (ups (past t)) → IsSeen n (ups (past t))) → Ties m t → Ties n t
 ties_dues m n t e k h = subst (λ (x : Machine). Ties x t) (sym e) (h.0, h.1, h.2, h.3, h.4, (subst (λ (x : Machine). IsSeen x (ups (past t))) e (k h.5.0), h.5.1))
 
--- ---- The numbers behind one
+-- ---- The numbers after one
 
--- the first of the range behind a number
+-- the first of the range after a number
 pub first_behind : (last : ℕ) (ks : List ℕ) → head_of (filter (λ q. is_lt (nat_cmp last q) && not false) ks) ≡ find (nat_lt last) ks
 first_behind last [] = refl
 first_behind last (k ∷ ks) = step (nat_lt last k) (last == k) (first_behind last ks)
@@ -685,7 +685,7 @@ first_behind last (k ∷ ks) = step (nat_lt last k) (last == k) (first_behind la
     step false true h = h
     step false false h = h
 
--- where none is behind the number, the first of all
+-- where there is none after the number, the first of all
 pub first_round : (last : ℕ) (o : Option ℕ) (ks : List ℕ) → None ≡ find (nat_lt last) ks → o ≡ head_of ks → o ≡ next_of last ks
 first_round last o ks e f = f ∙ head_is ks ∙ ap (λ (x : Option ℕ). or_else x (find (λ q. true) ks)) e
   where

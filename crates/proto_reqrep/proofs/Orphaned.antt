@@ -1,4 +1,4 @@
--- Which operations of a req have no request any more.
+-- The operations of a req that no longer have a request.
 use Rattle.std.proofs.Common.{◌≡◌, refl, ap, sym, ◌∙◌, subst, List, [], ◌∷◌, ◌++◌, ℕ, ◌+◌, Bool, true, false, cond, arith, Some, map, ◌≤◌}
 use Rattle.std.specs.Prelude.{find, filter, not, ◌&&◌, ◌||◌, ◌==◌}
 use Rattle.std.specs.List.{list_any, list_all}
@@ -46,7 +46,7 @@ all_kept f p (x ∷ xs) h = go (f x) refl (p x) h (all_kept f p xs)
 -- ---- The request of a context ends
 
 module _ (c : ℕ) (op : OpName) where
-  -- of the context, with this name
+  -- the operation of the context with this name
   abbrev named : Asking → Bool
   named w = (c == w.ctx) && same_op w.op op
 
@@ -103,7 +103,7 @@ module _ (c : ℕ) (op : OpName) where
         either true b = refl
         either false b = refl
 
-    -- where each of the context is an orphan, none more is left behind
+    -- where each of the context is an orphan, no more are left behind
     pub none_more : (ws : List Asking) → ((o : OpName) → list_any (is_left o) ws ≡ true → is_orphan rs o ≡ true) → list_any (λ (w : Asking). not w.is_orphan && (c == w.ctx)) ws ≡ false → filter (is_bereft (c ∷ []) rs) (map begun_of ws) ≡ []
     none_more [] g k = refl
     none_more (w ∷ ws) g k = go (c == w.ctx) w.is_orphan refl k (none_more ws (λ o q. g o (or_right _ _ q)))
@@ -220,11 +220,11 @@ less_left op other (w ∷ ws) h = go (same_op w.op op) refl (same_op w.op other)
     go false e false f h again =
         ap (λ b. w.is_orphan && b || list_any (is_left other) (without_first op ws)) f ∙ skip w.is_orphan _ ∙ again h ∙ sym (ap (λ b. not (same_op op other) && b) (skip w.is_orphan (list_any (is_left other) ws)))
 
--- the operation is no orphan any more
+-- the operation is no longer an orphan
 pub left_less : (op : OpName) (ws : List Asking) (rs : Requests) → ((o : OpName) → is_orphan rs o ≡ list_any (is_left o) ws) → AreApart (map begun_of ws) → (o : OpName) → is_orphan (without_orphan op rs) o ≡ list_any (is_left o) (without_first op ws)
 left_less op ws rs h a o = less_orphans op o rs.orphans ∙ ap (λ b. not (same_op op o) && b) (h o) ∙ sym (less_left op o ws (a op))
 
--- ---- Whether an operation is one
+-- ---- Whether an operation is an orphan
 
 pub orphan_found : (os : List Orphan) (op : OpName) → list_any (λ o. same_op o.op op) os ≡ true → list_all is_superseded os ≡ true → was_superseded (option_map (λ o. o.how) (find (λ o. same_op o.op op) os)) ≡ true
 orphan_found [] op h k = absurd cc
@@ -255,7 +255,7 @@ none_left (w ∷ ws) op h = go w.is_orphan h (none_left ws op)
 pub all_finished : (ws : List Asking) (rs : Requests) → ((o : OpName) → is_orphan rs o ≡ list_any (is_left o) ws) → list_any (λ (w : Asking). w.is_orphan) ws ≡ false → rs.orphans ≡ []
 all_finished ws rs h k = no_orphans rs.orphans (λ op. h op ∙ none_left ws op k)
 
--- where names are apart, the flag of an operation says it
+-- where names are distinct, the flag of an operation says it
 pub flag_of : (ws : List Asking) (P : Asking → Bool) (w : Asking) → AreApart (map begun_of ws) → find P ws ≡ Some w → list_any (is_left w.op) ws ≡ w.is_orphan
 flag_of [] P w a h = absurd cc
 flag_of (v ∷ ws) P w a h = go (P v) h (λ k. flag_of ws P w (rest_apart v ws a) k)

@@ -1,4 +1,4 @@
--- Which operations of a req have a live request.
+-- The operations of a req that have a live request.
 use Rattle.std.proofs.Common.{◌≡◌, ◌≢◌, refl, ap, sym, ◌∙◌, subst, List, [], ◌∷◌, ◌++◌, ℕ, Bool, true, false, cond, arith, Option, Some, None, map}
 use Rattle.std.specs.Prelude.{find, not, is_some, ◌&&◌, ◌||◌, ◌==◌}
 use Rattle.std.specs.List.{list_any}
@@ -16,7 +16,7 @@ use Rattle.proto_live_requests.proofs.RequestLives.{find_less, find_first}
 use Rattle.proto_live_requests.proofs.Outgoing.{find_out}
 use Rattle.proto_requests.proofs.TestValues.{equal_of, same_number, some_inj, turned}
 
--- ---- One more, one less
+-- ---- One more, one fewer
 
 pub owned_more : (xs : List Live) (ws : List Asking) (w : Asking) → HaveLive xs ws → (w.is_orphan ≡ false → HasLive xs w) → HaveLive xs (ws ++ w ∷ [])
 owned_more xs [] w h k = (k, h)
@@ -48,7 +48,8 @@ single_last P c (v ∷ ws) w h k = go (P c v) h (λ q. single_last P c ws w q k)
     go true h again = absurd cc
     go false h again = again h
 
--- one more behind: no other receive of its context before it, and no operation of a live request, where it is a send
+-- one more at the end: there is no other receive of its context before it, and, where it is a send, no operation of a
+-- live request
 pub single_more : (ws : List Asking) (w : Asking) → AreSingle ws → (is_sending w ≡ false → list_any (is_receiving_on w.ctx) ws ≡ false) → (is_sending w ≡ true → list_any (λ (v : Asking). not v.is_orphan && (v.ctx == w.ctx)) ws ≡ false) → AreSingle (ws ++ w ∷ [])
 single_more [] w h r s = (λ q. refl, λ q. refl, h)
 single_more (v ∷ ws) w h r s = (λ q. receives q, λ q. sends q, single_more ws w h.2 (λ q. rest_of _ _ (r q)) (λ q. rest_of _ _ (s q)))
@@ -128,7 +129,7 @@ pub owned_longer : (xs ys : List Live) (ws : List Asking) → HaveLive xs ws →
 owned_longer xs ys [] h = h
 owned_longer xs ys (w ∷ ws) h = (λ q. let k = h.0 q in (k.0, find_first (is_live_on w.ctx) xs ys k.0 k.1, k.2), owned_longer xs ys ws h.1)
 
--- after it, all of the context are orphans
+-- afterwards all of the context are orphans
 pub all_marked : (c d : ℕ) (ws : List Asking) → (c == d) ≡ true → list_any (λ (v : Asking). not v.is_orphan && (v.ctx == d)) (map (orphaned c) ws) ≡ false
 all_marked c d [] e = refl
 all_marked c d (w ∷ ws) e = let k : list_any (λ (v : Asking). not v.is_orphan && (v.ctx == d)) (map (orphaned c) ws) ≡ false = all_marked c d ws e in rw k (go w.is_orphan (c == w.ctx) refl (w.ctx == d) refl)

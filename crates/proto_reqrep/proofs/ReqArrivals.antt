@@ -1,4 +1,5 @@
--- What a req stands for when operations begin, frames and ticks come, and when it closes; and what it finds before.
+-- The history that a req stands for when operations begin, frames and ticks come, and when it closes; and what it
+-- checks before that.
 use Rattle.std.proofs.Common.{◌≡◌, ◌≢◌, refl, ap, sym, ◌∙◌, subst, List, [], ◌∷◌, ◌++◌, ℕ, ◌+◌, ◌^◌, ◌<◌, ◌≤◌, max, Bool, true, false, cond, arith, Option, Some, None, map, length}
 use Rattle.std.specs.Prelude.{find, filter, drop, take, not, is_some, nat_lt, ◌&&◌, ◌||◌, ◌==◌}
 use Rattle.std.specs.List.{list_any}
@@ -277,7 +278,7 @@ raw_frame m t p b ks r h f e = e ∙ ap (λ (is : List Item). is ++ raw_item p b
 pub raw_short : (m : Machine) (t : Moment) (p : ℕ) (b : List ℕ) → m.raw ≡ true → Ties m t → malformed t.z (past t) p b ≡ true → map item_of m.kept.items ≡ pool t.z (Frame p b ∷ past t) 0
 raw_short m t p b r h e = h.2 r ∙ sym (ap (λ q. cond (not q && cond (has_topics t.z) (has (ctxs (past t)) 0 && is_wanted_by (topics (past t) 0) b) (0 == 0)) (add_for t.z.role t.z (item_in t.z p b) (pool t.z (past t) 0)) (pool t.z (past t) 0)) e)
 
--- raw, what it stands for after a frame
+-- raw, the history that it stands for after a frame
 pub raw_frames : (m n : Machine) (t : Moment) (p : ℕ) (b : List ℕ) (v : Verdict) → m.raw ≡ true → Ties m t → n ≡ record m { kept = n.kept } → KeepsRaw v p b m.kept.items n.kept.items → Frames (Ties n) v t p b
 raw_frames m n t p b verdict.Fine r h s k =
     (long_frame m t p b h k.0, subst (λ (y : Machine). Ties y (also t (Frame p b))) (sym s) (h.0, h.1, λ q. raw_frame m t p b n.kept.items r h k.0 k.1, raw_asked m t (Frame p b ∷ past t) r h, h.4, h.5))
@@ -445,7 +446,7 @@ never_raw m t c act h r = ap (λ q. state_for t.z.role t.z (past t) c act && not
     none true = refl
     none false = refl
 
--- a context of a raw socket is never shut; of a cooked one nothing is kept apart
+-- a context of a raw socket is never shut; for a cooked one nothing is kept separately
 pub shut_items : (m : Machine) (t : Moment) (c : ℕ) → Lawful (also t (Ctx c Shut)) → Ties m t → m.raw ≡ true → map item_of m.kept.items ≡ pool t.z (Ctx c Shut ∷ past t) 0
 shut_items m t c l h r = h.2 r ∙ sym (away (c == 0) refl)
   where
@@ -501,7 +502,7 @@ ctxs_replied n k xs ys e = ap (map live_ctx) e ∙ ctxs_kept n k xs
 pub some_word : (b : List ℕ) (n : ℕ) → first_word b ≡ Some n → first_word b ≢ None
 some_word b n h k = let bad : Some n ≡ None = sym h ∙ k in absurd cc
 
--- what is left of a frame behind its id
+-- what is left of a frame after its id
 pub trimmed_is : {U : Type 0} (p : ℕ) (old new : MessageView) (r : Result U Short) → Trimmed 4 old new r → old.header ≡ [] → first_word old.body ≢ None → ◌≡◌ {A = Item} (record { pipe = p; words = []; message = text_of new }) (plain_item p (drop 4 old.body))
 trimmed_is p old new (Ok u) h e f = ap (λ (v : MessageView). record { pipe = p; words = []; message = text_of v }) h.1 ∙ ap (λ (l : List ℕ). record { pipe = p; words = []; message = record { header = l; body = drop 4 old.body } }) e
 trimmed_is p old new (Err u) h e f = let long : nat_lt (length old.body) 4 ≡ false = long_is old.body f in absurd (short (length old.body) h.0 long)

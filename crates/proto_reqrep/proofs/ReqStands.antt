@@ -119,7 +119,7 @@ named op (v ∷ ws) w h = go (same_op v.op op) refl h (named op ws w)
     go true e h again = ap (λ (u : Asking). u.op) (sym (some_inj h)) ∙ same_op-eq v.op op e
     go false e h again = again h
 
--- whether its request has ended
+-- its request has ended, or not
 pub flag : (m : Machine) (t : Moment) (P : Asking → Bool) (w : Asking) → Ties m t → find P m.waiting.items ≡ Some w → is_orphan (requests t.z (past t)) w.op ≡ w.is_orphan
 flag m t P w h f = h.3.orphans w.op ∙ flag_of m.waiting.items P w (subst (λ (l : List Begun). AreApart l) (sym h.3.pending) h.3.apart) f
 

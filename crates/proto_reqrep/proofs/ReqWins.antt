@@ -126,7 +126,7 @@ module _ (m n : Machine) (ws : WaitsView Asking) (t : Moment) (op : OpName) (s :
 
 -- ---- Whether a request is due
 
--- as the history says it, where its context is not dry
+-- as the history has it, where its context is not dry
 pub due_is : (m : Machine) (t : Moment) → Ties m t → (x : Live) → dry_at x.ctx m.contexts.items ≡ false → is_due m.options.resend m.tick m.ports.items m.contexts.items x ≡ is_due_again t.z (past t) (request_of x)
 due_is m t h x d = rw d (plain (is_some x.reply) (is_late_in m.options.resend m.tick m.ports.items x.last_out) ∙ ap (λ b. b && is_late_in m.options.resend m.tick m.ports.items x.last_out) (nil_is x.reply) ∙ ap (λ b. is_nil (items_of x.reply) && b) (late x.last_out))
   where
@@ -152,7 +152,7 @@ none_again m t c p r h g f e =
     let y = again_live m t c p r h g in
     let bad : None ≡ Some y.0 = sym f ∙ ap (find (is_live_on c)) e ∙ y.1 in absurd cc
 
--- it is due by what the machine knows
+-- it is due, as far as the machine knows
 due_now : (m : Machine) (t : Moment) (c p : ℕ) (r : LiveRequest) (h : Ties m t) (g : CanAgain t c p r) → is_due m.options.resend m.tick m.ports.items m.contexts.items (again_live m t c p r h g).0 ≡ true
 due_now m t c p r h g =
     let y = again_live m t c p r h g in

@@ -1,4 +1,4 @@
--- What a req stands for when requests begin and go out, frames come, and contexts open and shut.
+-- The history that a req stands for when requests begin and go out, frames come, and contexts open and shut.
 use Rattle.std.proofs.Common.{◌≡◌, ◌≢◌, refl, ap, sym, ◌∙◌, subst, List, [], ◌∷◌, ◌++◌, ℕ, ◌+◌, ◌<◌, Bool, true, false, cond, arith, Option, Some, None, map, rules}
 use Rattle.std.specs.Prelude.{find, filter, not, is_some, ◌&&◌, ◌||◌, ◌==◌}
 use Rattle.std.specs.List.{list_any, list_all}
@@ -213,7 +213,7 @@ dried_opened c xs ss cs dry h = record { of_contexts = h.of_contexts; contexts =
     same [] = refl
     same (s ∷ ss) = ap (λ (rest : List ℕ). s.ctx ∷ rest) (same ss)
 
-    -- of another context nothing changes
+    -- for another context nothing changes
     other : (d : ℕ) (ss : List ReqContextView) → (c == d) ≡ false → dry_at d (map (dried c) ss) ≡ dry_at d ss
     other d [] e = refl
     other d (s ∷ ss) e = let k = other d ss e in rw k (go (s.ctx == d) refl (s.ctx == c) refl s.is_dry)
@@ -399,7 +399,7 @@ shut_asked m t c l h = go m.raw refl
 
 -- ---- The start
 
--- nothing is asked
+-- nothing was asked
 pub none_asked : (raw : Bool) (o : Options) (slots callers caller : ℕ) → Asked raw [] None [] (reading (start (setting_of (req_kind raw o) slots callers) caller)).pend (reading (start (setting_of (req_kind raw o) slots callers) caller)).requests
 none_asked true o slots callers caller = record { live = refl; last_id = refl; ids = tt; places = tt; sound = tt; pending = refl; apart = λ op. omega arith; orphans = λ op. refl; causes = refl; single = λ r. tt; owned = λ r. tt }
 none_asked false o slots callers caller = record { live = refl; last_id = refl; ids = tt; places = tt; sound = tt; pending = refl; apart = λ op. omega arith; orphans = λ op. refl; causes = refl; single = λ r. tt; owned = λ r. tt }

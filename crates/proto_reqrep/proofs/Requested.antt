@@ -1,4 +1,4 @@
--- What a req's operations and requests stand for after each entry.
+-- The operations and requests of a req after each entry.
 use Rattle.std.proofs.Common.{◌≡◌, refl, ap, sym, ◌∙◌, subst, List, [], ◌∷◌, ◌++◌, ℕ, ◌+◌, ◌^◌, ◌<◌, Bool, true, false, cond, arith, Option, Some, None, map}
 use Rattle.std.specs.Prelude.{find, filter, drop, not, is_some, ◌&&◌, ◌||◌, ◌==◌}
 use Rattle.std.specs.List.{list_any, list_all}
@@ -39,7 +39,7 @@ module _ (raw : Bool) (xs : List Live) (id : Option ℕ) (ws : List Asking) (ss 
   names : Asked raw xs id ws ss rs → AreApart (map begun_of ws)
   names h = subst (λ (l : List Begun). AreApart l) (sym h.pending) h.apart
 
-  -- an operation is taken out, and is no orphan any more
+  -- an operation is taken out, and is no longer an orphan
   pub taken : (op : OpName) → Asked raw xs id ws ss rs → Asked raw xs id (without_first op ws) (without_begun ss op) (without_orphan op rs)
   taken op h =
       record {
@@ -130,7 +130,7 @@ module _ (raw : Bool) (xs : List Live) (id : Option ℕ) (ws : List Asking) (ss 
         owned = λ q. owned_marked c xs ws (h.owned q);
       }
 
-  -- the request of a context ends, of which no operation waits
+  -- the request of a context ends for which no operation waits
   pub ended_alone : (c : ℕ) (w : How) → list_any (λ (v : Asking). not v.is_orphan && (c == v.ctx)) ws ≡ false → Asked raw xs id ws ss rs → Asked raw (without_live c xs) id ws ss (end_on (c ∷ []) w ss rs)
   ended_alone c w k h =
       record {

@@ -1,4 +1,4 @@
--- Which live requests of a req are looked at when they are due, after each call.
+-- The live requests of a req that are looked at when they are due, after each call.
 use Rattle.std.proofs.Common.{◌≡◌, refl, ap, sym, ◌∙◌, subst, List, [], ◌∷◌, ◌++◌, ℕ, ◌+◌, ◌≤◌, Bool, true, false, cond, arith, Option, Some, None, map, filter, inl, inr}
 use Rattle.std.specs.Prelude.{◌⊎◌, find, not, is_some, nat_le, drop, ◌&&◌, ◌||◌, ◌==◌}
 use Rattle.std.specs.List.{list_any}
@@ -65,7 +65,7 @@ due_found m c h = go (find (is_live_on c) m.live.items) refl h
     go None f h = absurd cc
     go (Some x) f h = waits x f x.reply refl x.last_out refl h
 
--- what is looked at no more is not due
+-- what is no longer looked at is not due
 pub looked_past : (m : Machine) (v : DuesView) (last c : ℕ) → AreDistinct (map live_ctx m.live.items) → Some c ≡ head_of v.due.items → is_due_out m (awaited (find (is_live_on c) m.live.items)) c ≡ false → AreSeen v (late_in m) (dry_in m) last m.live.items
     → AreSeen (record v { due = record { whole = v.due.whole; items = drop 1 v.due.items } }) (late_in m) (dry_in m) last m.live.items
 looked_past m v last c a e n h = seen_dropped v (late_in m) (dry_in m) last c m.live.items a e (λ o z. sym (ap (λ y. is_due_out m y c) z) ∙ n) h
@@ -266,7 +266,7 @@ dry_itself c ss rs e k = ap (dry_at c) e ∙ dry_more c c ss k
 
 -- ---- Requests
 
--- what goes out now on a pipe that is up is not late, and its number is none above the last that came up
+-- what goes out now on a pipe that is up is not late, and its number is not above the last one that came up
 pub out_now : (m : Machine) (t : Moment) (p : ℕ) → Ties m t → has (up (past t)) p ≡ true → (late_in m (record { pipe = p; when = m.tick }) ≡ false) × (nat_le p (ups (past t)) ≡ true)
 out_now m t p h u =
     (ap (λ b. not b || nat_le (m.tick + m.options.resend) m.tick) (ap (list_any (is_pipe p)) h.1.ports ∙ up_is _ (up (past t)) p ∙ u) ∙ later m.tick m.options.resend h.0.resend, below p (ups (past t)) (h.1.known p u))

@@ -23,15 +23,15 @@ count_most due (x ∷ xs) = go (due x) (count_most due xs)
     go true h = omega (arith, h)
     go false h = omega (arith, h)
 
--- a pipe less that is free, whatever is due then
+-- one free pipe fewer, whatever is then due
 pub less_free : (f g l d e w : ℕ) → f < g → d ≤ l → f * (l + 1) + d + w < g * (l + 1) + e + w
 less_free f g l d e w h k = let row = row_fits f (l + 1) g (l + 1) h (omega arith) in omega (arith, row, k)
 
--- an operation less
+-- one operation fewer
 pub less_waiting : (f l m d e v w : ℕ) → l ≤ m → d ≤ e → v < w → f * (l + 1) + d + v < f * (m + 1) + e + w
 less_waiting f l m d e v w h k n = let row = mul-le f (l + 1) f (m + 1) (omega arith) (omega (arith, h)) in omega (arith, row, k, n)
 
--- a request less that is due
+-- one due request fewer
 pub less_due : (f l d e w : ℕ) → d < e → f * (l + 1) + d + w < f * (l + 1) + e + w
 less_due f l d e w h = omega (arith, h)
 
@@ -59,7 +59,7 @@ count_less due c (x ∷ xs) = go (is_live_on c x) (due x) (count_less due c xs)
         both true = omega (arith, h)
         both false = h
 
--- one that is changed, and is not due then
+-- one request is changed, and is then not due
 pub count_changed : (due : Live → Bool) (c : ℕ) (f : Live → Live) (xs : List Live) → ((x : Live) → x.ctx ≡ c → due (f x) ≡ false) → due_count due (with_found (is_live_on c) f xs) ≤ due_count due xs
 count_changed due c f [] k = omega arith
 count_changed due c f (x ∷ xs) k = go (x.ctx == c) refl (count_changed due c f xs k)
@@ -100,7 +100,7 @@ count_falls due c f (x ∷ xs) y h d k = go (x.ctx == c) refl h (λ q. count_fal
         rw (k x (equal_of x.ctx c e), is) (omega arith)
     go false e h again = both (due x) (again h)
 
--- where fewer are due, one less of a context
+-- where fewer are due, one fewer of a context
 pub count_narrowed : (due now : Live → Bool) (c : ℕ) (xs : List Live) (y : Live) → find (is_live_on c) xs ≡ Some y → due y ≡ true → ((x : Live) → now x ≡ true → due x ≡ true) → ((x : Live) → x.ctx ≡ c → now x ≡ false) → due_count now xs < due_count due xs
 count_narrowed due now c [] y h d k n = absurd cc
 count_narrowed due now c (x ∷ xs) y h d k n = go (x.ctx == c) refl h (λ q. count_narrowed due now c xs y q d k n)
@@ -155,7 +155,7 @@ dry_not_due resend t c ps ss x e d = rw (e, d) (never (is_some x.reply) (is_late
     never false true = refl
     never false false = refl
 
--- a pipe is up by what the machine knows
+-- a pipe is up as far as the machine knows
 pub up_is : (full : ℕ → Bool) (us : List ℕ) (p : ℕ) → list_any (is_pipe p) (map (port_of full) us) ≡ has us p
 up_is full [] p = refl
 up_is full (u ∷ us) p = ap (λ b. (u == p) || b) (up_is full us p)

@@ -18,7 +18,7 @@ silent m t e h l k = stays Stands m t e h k
 pub anew : (m : Machine) (t : Moment) → past t ≡ [] → Ties m t → Starts Ties m (req_kind m.raw m.options)
 anew m t e h = starts Stands m t (req_kind m.raw m.options) (kinds m t h) e h
 
--- what stays as it is where a request ends
+-- what stays unchanged when a request ends
 pub left_same : (w : Asking) → (w.op ≡ w.op) × (w.ctx ≡ w.ctx) × (is_some w.message ≡ is_some w.message)
 left_same w = (refl, refl, refl)
 

@@ -1,4 +1,4 @@
--- What a req stands for.
+-- The history that a req stands for.
 use Rattle.std.specs.Prelude.{◌≡◌, ◌≢◌, ◌≤◌, ◌<◌, ◌+◌, ◌*◌, ◌^◌, ◌==◌, ◌&&◌, ◌||◌, ℕ, zero, suc, Bool, true, false, not, ⊤, nat_le, if◌then◌else◌, List, [], ◌∷◌, ◌++◌, length, map, find, drop, Option, Some, None, is_some}
 use Rattle.std.specs.List.{list_any, list_all}
 use Rattle.sp_base.specs.declared.OpName.{OpName}
@@ -62,7 +62,7 @@ is_receiving_on c w = not (is_sending w) && (w.ctx == c)
 abbrev pub without_first : OpName → List Asking → List Asking
 without_first op ws = without_found (is_asked op) ws
 
--- its request has ended, if it is of this context
+-- its request has ended, if it belongs to this context
 abbrev pub orphaned : ℕ → Asking → Asking
 orphaned c w = record { op = w.op; ctx = w.ctx; message = w.message; is_orphan = w.is_orphan || (c == w.ctx) }
 
@@ -83,7 +83,7 @@ abbrev pub is_given : Bool → List KeptReply → List Live → ℕ → Bool
 is_given true ks xs c = not (is_nil ks)
 is_given false ks xs c = list_any (keeps_reply c) xs
 
--- its pipe is down, or it is too long ago
+-- its pipe is down, or it went out too long ago
 abbrev pub is_late : ℕ → ℕ → List PortView → LastOut → Bool
 is_late resend t ps o = not (list_any (is_pipe o.pipe) ps) || nat_le (o.when + resend) t
 
@@ -134,12 +134,12 @@ NoneDue m = list_any (due_in m) m.live.items ≡ false
 abbrev pub ReadyAmong : Machine → HintsView ℕ → Type 0
 ReadyAmong m h = AreReady h m.live.items m.waiting.items
 
--- that of the context, which waits for a reply since it went out so
+-- the request of the context, which waits for a reply since this Out
 abbrev pub is_due_out : Machine → Option LastOut → ℕ → Bool
 is_due_out m None c = false
 is_due_out m (Some o) c = late_in m o && not (dry_in m c)
 
--- that of the context may go out again
+-- the request of the context may go out again
 abbrev pub IsDueOn : Machine → ℕ → Type 0
 IsDueOn m c = (x : Live) × (find (is_live_on c) m.live.items ≡ Some x) × (due_in m x ≡ true)
 
@@ -168,7 +168,7 @@ IsOut m p (offers.Flood op) = ⊥
 IsOut m p (offers.Drop op) = ⊥
 IsOut m p (offers.Finish op cause) = ⊥
 
--- the state has no place for it: a receive wants a live request, and no other receive
+-- the state doesn't allow it: a receive needs a live request, and no other receive
 abbrev pub ask_state : List Asking → List Live → ℕ → Verb → Bool
 ask_state ws xs c verbs.Recv = not (list_any (is_live_on c) xs) || list_any (is_receiving_on c) ws
 ask_state ws xs c verbs.Send = false
@@ -180,7 +180,7 @@ due_count due (x ∷ xs) = if due x then due_count due xs + 1 else due_count due
 abbrev pub is_raw : Machine → Bool
 is_raw m = m.raw
 
--- so many operations more can wait
+-- how many more operations can wait
 abbrev pub places_left : Machine → ℕ
 places_left m = m.waiting.room
 
@@ -224,7 +224,7 @@ GivesReply c r m n = (r ≡ reply_in (find (is_live_on c) m.live.items)) × (n.l
 abbrev pub sent_now : Machine → ℕ → LastOut
 sent_now m p = record { pipe = p; when = m.tick }
 
--- what goes out for the request of the context: its id, and behind it this body
+-- what goes out for the request of the context: its id, followed by this body
 abbrev pub IsLed : List Live → ℕ → List ℕ → MessageView → Type 0
 IsLed xs c body r = (x : Live) → find (is_live_on c) xs ≡ Some x → wire_text r ≡ word x.id ++ body
 
@@ -237,7 +237,7 @@ KeepsRaw (verdict.Dry c) p b old new = ⊥
 
 -- ---- What it stands for
 
--- the operation, whose request is live: a send is what that one was begun with, and it did not go out yet
+-- the operation, whose request is live: if it is a send, the request was begun with its message, and did not go out yet
 abbrev pub IsOf : Live → Option MessageView → Type 0
 IsOf x None = ⊤
 IsOf x (Some m) = (x.copy.body ≡ m.body) × (x.last_out ≡ None)
@@ -254,7 +254,7 @@ HaveLive xs (w ∷ ws) = (w.is_orphan ≡ false → HasLive xs w) × HaveLive xs
 abbrev pub is_sending_on : ℕ → Asking → Bool
 is_sending_on c w = is_sending w && (w.ctx == c)
 
--- behind no receive another one of its context is pending, and behind no operation of a live request another send
+-- after a receive no other receive of its context is pending, and after an operation of a live request no other send
 abbrev pub AreSingle : List Asking → Type 0
 AreSingle [] = ⊤
 AreSingle (w ∷ ws) =
@@ -268,7 +268,7 @@ is_superseded o = was_superseded (Some o.how)
 abbrev pub roomy_of : Machine → List ℕ
 roomy_of m = m.roomy.keys
 
--- the first of the numbers behind this one, or else the first of all
+-- the first of the numbers after this one, or else the first of all
 abbrev pub next_of : ℕ → List ℕ → Option ℕ
 next_of last us = next_pipe (λ q. true) last us
 
@@ -281,7 +281,7 @@ abbrev pub passing : (ℕ → Bool) → Option ℕ → Option ℕ
 passing P None = None
 passing P (Some q) = if P q then Some q else None
 
--- it is the next of the roomy pipes behind that of the last Out, in the round of their numbers, if that one is up and
+-- it is the next of the roomy pipes after that of the last Out, in the round of their numbers, if that one is up and
 -- was not found full in this turn; else the next of all that are up and were not found full in this turn
 abbrev pub IsNextPipe : List ℕ → Moment → ℕ → Type 0
 IsNextPipe roomy t p = or_else (passing (has_room t) (next_of (out_last (past t)) roomy)) (next_pipe (λ q. not (has_full t.turn q)) (out_last (past t)) (up (past t))) ≡ Some p
@@ -299,7 +299,7 @@ roomy_port m = way_of (where_is m.ports.items (next_of m.last_pipe (roomy_of m))
 abbrev pub chosen_port : Machine → Option ℕ
 chosen_port m = or_else (roomy_port m) (option_map (λ (x : PortView). x.pipe) (next_port m.last_pipe m.ports.items))
 
--- what it is set to, the time, and the pipe of the last Out
+-- its settings, the time, and the pipe of the last Out
 pub record SetTo (raw : Bool) (options : Options) (tick : ℕ) (last : ℕ) (k : Kind) (t : ℕ) (out : ℕ) : Type 0 where
   pub kind : k ≡ req_kind raw options
   -- an Out is never due again at once
@@ -307,8 +307,8 @@ pub record SetTo (raw : Bool) (options : Options) (tick : ℕ) (last : ℕ) (k :
   pub moment : tick ≡ t
   pub outs : last ≡ out
 
--- the live requests, all of other ids and contexts; the pending operations, the oldest first, and which of them have no
--- request any more
+-- the live requests, with different ids and contexts; the pending operations, the oldest first, and those of them that
+-- no longer have a request
 pub record Asked (raw : Bool) (xs : List Live) (id : Option ℕ) (ws : List Asking) (ss : List Begun) (rs : Requests) : Type 0 where
   pub live : map request_of xs ≡ rs.live
   pub last_id : id ≡ rs.last_id
@@ -322,7 +322,7 @@ pub record Asked (raw : Bool) (xs : List Live) (id : Option ℕ) (ws : List Aski
   pub single : raw ≡ false → AreSingle ws
   pub owned : raw ≡ false → HaveLive xs ws
 
--- the open contexts, those of the live requests among them, and which are dry
+-- the open contexts, those of the live requests among them, and those that are dry
 pub record Opened (xs : List Live) (all : List ReqContextView) (cs : List ℕ) (dry : ℕ → Bool) : Type 0 where
   pub of_contexts : (c : ℕ) → has (map live_ctx xs) c ≡ true → has cs c ≡ true
   pub contexts : map context_number all ≡ cs
@@ -332,7 +332,7 @@ pub record Opened (xs : List Live) (all : List ReqContextView) (cs : List ℕ) (
 abbrev pub Keeps : Bool → List KeptReply → List Item → Type 0
 Keeps raw ks is = raw ≡ true → map item_of ks ≡ is
 
--- it stands for what it reads of a moment
+-- it stands for what the reading of a moment says
 abbrev pub Stands : Machine → MomentReading → Type 0
 Stands m r =
     SetTo m.raw m.options m.tick m.last_pipe r.kind r.now r.out_last

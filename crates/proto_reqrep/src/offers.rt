@@ -1,7 +1,7 @@
 //! What a req offers: what can be given, what goes out, and which requests are due again.
 //!
-//! A look is at what its hints name first (`ready`, `dues`, and the ended operations of `waiting`); where those are not
-//! whole, all are searched through, which makes them whole again if nothing is found.
+//! A look begins with what the hints name (`ready`, `dues`, and the ended operations of `waiting`); where the hints are
+//! incomplete, everything is searched, which completes them again if nothing is found.
 //!
 //! What goes out is offered to a roomy pipe first: one that had room when it was last asked, was not asked yet, or is
 //! to be tried again. Where the next of these can't be taken, or none is roomy, it is offered to the next of all pipes.
@@ -29,7 +29,7 @@ use sp_proto::Offer;
 use std::collections::BTreeSet;
 use std::ops::Bound;
 
-// The first of the numbers behind this one.
+// The first of the numbers after this one.
 fn first_behind(roomy: &BTreeSet<u32>, last: PipeId) -> Option<PipeId>
     ensures { result ≡ find (nat_lt last) roomy.now.keys }
 {
@@ -52,7 +52,7 @@ fn first_of_all(roomy: &BTreeSet<u32>) -> Option<PipeId>
     }
 }
 
-// The first of the numbers behind this one, or else the first of all.
+// The first of the numbers after this one, or else the first of all.
 fn next_roomy(roomy: &BTreeSet<u32>, last: PipeId) -> Option<PipeId>
     ensures { result ≡ next_of last roomy.now.keys }
 {
@@ -63,7 +63,7 @@ fn next_roomy(roomy: &BTreeSet<u32>, last: PipeId) -> Option<PipeId>
 }
 
 impl Request {
-    // A message can be given to a receive of the context.
+    // Returns whether a message can be given to a receive of the context.
     pub(crate) fn gives(&self, c: Ctx) -> bool
         ensures { result ≡ is_given self.now.raw self.now.kept.items self.now.live.items c }
     {
@@ -73,7 +73,7 @@ impl Request {
         self.live.has_reply(c)
     }
 
-    // A receive stands there that can be given a message.
+    // Returns whether a receive is there that can be given a message.
     fn gives_at(&self, s: &Spot<Asking>) -> bool
         ensures { result ≡ holds (gets self.now) s.now }
     {
@@ -83,14 +83,14 @@ impl Request {
         }
     }
 
-    // Where the first receive stands that can be given a message.
+    // The place of the first receive that can be given a message.
     fn give_place(&self, list: &[Spot<Asking>]) -> Option<usize>
         ensures { result ≡ position (holds (gets self.now)) list.now }
     {
         list.iter().position(|s| self.gives_at(s))
     }
 
-    // One whose request has ended.
+    // An operation whose request has ended.
     pub(crate) fn next_left(&mut self) -> Option<OpName>
         ensures same { self.new ≡ self.old }
         ensures over { IfSome result (λ op. IsOver (λ (w : AskingType). w.op) (λ (w : AskingType). w.is_orphan) self.old.waiting.items op) }
@@ -99,7 +99,7 @@ impl Request {
         self.waiting.first_left()
     }
 
-    // The next of the roomy pipes behind that of the last Out, in the round of their numbers, if it is up and not full.
+    // The next of the roomy pipes after that of the last Out, in the round of their numbers, if it is up and not full.
     fn roomy_port(&self) -> Option<PipeId>
         ensures { result ≡ roomy_port self.now }
     {
@@ -110,7 +110,7 @@ impl Request {
         }
     }
 
-    // It, or else the next of all pipes behind that of the last Out that is not full.
+    // That pipe, or else the next of all pipes after that of the last Out that is not full.
     pub(crate) fn next_port(&mut self) -> Option<PipeId>
         ensures same { self.new ≡ self.old }
         ensures port { result ≡ chosen_port self.old }
@@ -121,7 +121,7 @@ impl Request {
         }
     }
 
-    // A receive that can be given a message. They are searched through.
+    // A receive that can be given a message, found by a search of all.
     fn search_give(&mut self) -> Option<OpName>
         ensures same { self.new ≡ record self.old { ready = self.new.ready } }
         ensures ready { self.old.raw ≡ false → ReadyAmong self.old self.old.ready → ReadyAmong self.old self.new.ready }
@@ -164,7 +164,7 @@ impl Request {
         next_ready(&mut self.ready, &self.live, &self.waiting)
     }
 
-    // The live request may go out again.
+    // Returns whether the live request may go out again.
     fn is_due(&self, x: &Live) -> bool
         ensures { result ≡ is_due self.now.options.resend self.now.tick self.now.ports.items self.now.contexts.items x.now }
     {
@@ -177,14 +177,14 @@ impl Request {
         }
     }
 
-    // Its pipe is down, or it is too long ago.
+    // Returns whether its pipe is down, or it went out too long ago.
     fn is_late(&self, out: LastOut) -> bool
         ensures { result ≡ is_late self.now.options.resend self.now.tick self.now.ports.items out }
     {
         !self.ports.is_up(out.pipe) || is_past(out.when, self.tick, self.options.resend)
     }
 
-    // A live request stands there that may go out again.
+    // Returns whether a live request is there that may go out again.
     fn is_due_at(&self, s: &Spot<Live>) -> bool
         ensures { result ≡ holds (is_due self.now.options.resend self.now.tick self.now.ports.items self.now.contexts.items) s.now }
     {
@@ -194,14 +194,14 @@ impl Request {
         }
     }
 
-    // Where the first of these stands that may go out again.
+    // The place of the first of these that may go out again.
     fn due_among(&self, list: &[Spot<Live>]) -> Option<usize>
         ensures { result ≡ position (holds (is_due self.now.options.resend self.now.tick self.now.ports.items self.now.contexts.items)) list.now }
     {
         list.iter().position(|s| self.is_due_at(s))
     }
 
-    // The live request of the context may go out again.
+    // Returns whether the live request of the context may go out again.
     fn is_due_on(&self, c: Ctx) -> bool
         ensures { result ≡ is_due_out self.now (out_of self.now.live.items c) c }
     {
@@ -211,7 +211,7 @@ impl Request {
         }
     }
 
-    // The context of a live request that may go out again. Those before it are looked at no more.
+    // The context of a live request that may go out again. Those before it are no longer looked at.
     fn next_looked(&mut self) -> Option<Ctx>
         ensures same { self.new ≡ record self.old { dues = self.new.dues } }
         ensures seen { (last : ℕ) → OnePerContext self.old.live.items → IsSeen self.old last → IsSeen self.new last }
@@ -227,7 +227,7 @@ impl Request {
         None
     }
 
-    // The same. They are searched through.
+    // The same, found by a search of all.
     fn search_due(&mut self) -> Option<Ctx>
         ensures same { self.new ≡ record self.old { dues = self.new.dues } }
         ensures seen { (last : ℕ) → IsSeen self.old last → IsSeen self.new last }
@@ -244,7 +244,7 @@ impl Request {
         }
     }
 
-    // The same. They are searched through only where not all that may be due are looked at.
+    // The same. All are searched only where not all that may be due are looked at.
     fn next_due(&mut self) -> Option<Ctx>
         ensures same { self.new ≡ record self.old { dues = self.new.dues } }
         ensures seen { (last : ℕ) → OnePerContext self.old.live.items → IsSeen self.old last → IsSeen self.new last }

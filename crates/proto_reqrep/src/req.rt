@@ -38,7 +38,7 @@ use sp_proto::{Act, CheckError, Offer, Proto, UpFault, Verb, Verdict};
 use std::alloc::Global;
 use std::collections::BTreeSet;
 
-/// So many requests can be live.
+/// The maximum number of live requests.
 const MOST_LIVE: usize = 2_147_483_647;
 
 /// An operation that waits: a send has its message, as it was begun (nng_req(7)).
@@ -47,7 +47,7 @@ pub struct Asking {
     pub op: OpName,
     pub ctx: Ctx,
     pub message: Option<Message>,
-    /// Its request has ended.
+    /// Whether its request has ended.
     pub is_orphan: bool,
 }
 
@@ -101,7 +101,7 @@ pub struct Request {
     pub(crate) options: Options,
     pub(crate) tick: Tick,
     pub(crate) last_id: Option<u32>,
-    /// Of the last Out, or 0. The next goes to one behind it.
+    /// The pipe of the last Out, or 0. The next request goes to one after it.
     pub(crate) last_pipe: PipeId,
     pub(crate) ports: Ports,
     /// The roomy pipes: those that had room when they were last asked, were not asked yet, or are to be tried again.
@@ -109,23 +109,23 @@ pub struct Request {
     pub(crate) roomy: BTreeSet<u32>,
     /// The pipe that was tried again last, or 0.
     retried: PipeId,
-    /// Raw: replies.
+    /// Raw: the replies that are kept.
     pub(crate) kept: Backlog<KeptReply>,
-    /// Cooked: at most one of each context.
+    /// Cooked: the live requests, at most one of each context.
     pub(crate) live: Lives,
-    /// The contexts of those that are looked at when they are due.
+    /// The contexts of the requests that are looked at when they are due.
     pub(crate) dues: Dues,
-    /// In the order of their begins.
+    /// The operations that wait, in the order of their begins.
     pub(crate) waiting: Waits<Asking>,
-    /// The contexts that have both a receive and a reply are among these.
+    /// Contexts, among them those that have both a receive and a reply.
     pub(crate) ready: Hints<u32>,
-    /// Of the open contexts.
+    /// The open contexts.
     pub(crate) contexts: ReqContexts,
 }
 
 // ---- Operations
 
-// The operation waits, the last of all.
+// Adds an operation, as the last one.
 fn wait(waiting: &mut Waits<Asking>, op: OpName, c: Ctx, message: Option<Message>)
     requires { 0 < waiting.old.room }
     ensures items { waiting.new.items ≡ waiting.old.items ++ record { op = op; ctx = c; message = message; is_orphan = false } ∷ [] }
@@ -139,7 +139,7 @@ fn wait(waiting: &mut Waits<Asking>, op: OpName, c: Ctx, message: Option<Message
     });
 }
 
-// The request of the context ends, and leaves its operations behind.
+// Ends the request of the context, and leaves its operations behind.
 fn leave_behind(waiting: &mut Waits<Asking>, c: Ctx)
     ensures items { waiting.new.items ≡ map (orphaned c) waiting.old.items }
     ensures room { waiting.new.room ≡ waiting.old.room }
@@ -149,7 +149,7 @@ fn leave_behind(waiting: &mut Waits<Asking>, c: Ctx)
 
 // ---- Pipes
 
-// The next pipe behind this one counts as roomy, if one is up.
+// Makes the next pipe after this one count as roomy, if one is up.
 fn try_again(ports: &mut Ports, roomy: &mut BTreeSet<u32>, last: &mut PipeId)
     ensures { ports.new ≡ ports.old }
 {
@@ -164,7 +164,7 @@ fn try_again(ports: &mut Ports, roomy: &mut BTreeSet<u32>, last: &mut PipeId)
 
 // ---- Live requests
 
-// Takes the room for one more.
+// Makes room for one more.
 fn make_room(live: &mut Lives, ready: &mut Hints<u32>, dues: &mut Dues) -> Result<(), NoMemory>
     ensures items { live.new.items ≡ live.old.items }
     ensures room { OnOk result (0 < live.new.room) }
@@ -176,7 +176,7 @@ fn make_room(live: &mut Lives, ready: &mut Hints<u32>, dues: &mut Dues) -> Resul
     dues.reserve(live)
 }
 
-// Takes the reply that is kept for the context, whose request it answers.
+// Takes out the reply that is kept for the context, and ends the request that it answers.
 fn answered(live: &mut Lives, c: Ctx) -> Option<Message>
     ensures reply { result ≡ reply_in (find (is_live_on c) live.old.items) }
     ensures rest { live.new.items ≡ without_live c live.old.items }
@@ -190,7 +190,7 @@ fn answered(live: &mut Lives, c: Ctx) -> Option<Message>
     }
 }
 
-// The id in place of the header.
+// Replaces the header by the id.
 fn led(message: Message, id: u32) -> Message
     ensures { wire_text result ≡ word id ++ message.body }
 {
@@ -219,7 +219,7 @@ fn asked(live: &mut Lives, c: Ctx, message: Message, out: LastOut) -> Message
 
 // ---- Ids
 
-// The number after it, with the top bit set.
+// The next number, with the top bit set.
 fn number_after(id: u32) -> u32
     ensures { result ≡ number_after id }
 {
@@ -251,7 +251,7 @@ fn next_id(live: &Lives, dice: u32, last: Option<u32>) -> u32
 
 // ---- Raw messages
 
-// Takes the oldest.
+// Takes out the oldest reply.
 fn oldest(kept: &mut Backlog<KeptReply>) -> Option<Message>
     ensures first { result ≡ option_map (λ (k : KeptReplyType). k.message) (head_of kept.old.items) }
     ensures rest { kept.new.items ≡ drop 1 kept.old.items }
@@ -264,7 +264,7 @@ fn oldest(kept: &mut Backlog<KeptReply>) -> Option<Message>
 
 // ---- Receives that can be given a reply
 
-// A reply is kept for the request that waits for it, if there is one. Its context is looked at.
+// Keeps the reply for the request that waits for it, if there is one. Its context is then looked at.
 fn keep_reply(live: &mut Lives, ready: &mut Hints<u32>, id: u32, kept: KeptReply)
     ensures live { live.new.items ≡ with_reply id kept live.old.items }
     ensures ready { (ws : List AskingType) → AreReady ready.old live.old.items ws → AreReady ready.new live.new.items ws }
@@ -275,7 +275,7 @@ fn keep_reply(live: &mut Lives, ready: &mut Hints<u32>, id: u32, kept: KeptReply
     }
 }
 
-// A receive of the context is to wait. It is looked at, if a reply is kept for it.
+// Makes the context looked at, a receive of which is to wait, if a reply is kept for it.
 fn look_at(ready: &mut Hints<u32>, live: &Lives, c: Ctx)
     ensures { (w : AskingType) (ws : List AskingType) → w.ctx ≡ c → AreReady ready.old live.now.items ws → AreReady ready.new live.now.items (ws ++ w ∷ []) }
 {
@@ -294,8 +294,8 @@ fn ready_on(live: &Lives, waiting: &Waits<Asking>, c: Ctx) -> Option<OpName>
     waiting.receive_on(c)
 }
 
-/// A receive that can be given a reply, of the contexts that are to be looked at. Those before its own are looked at no
-/// more.
+/// A receive that can be given a reply, of the contexts that are to be looked at. Those before its own are no longer
+/// looked at.
 pub fn next_ready(ready: &mut Hints<u32>, live: &Lives, waiting: &Waits<Asking>) -> Option<OpName>
     ensures ready { AreReady ready.old live.now.items waiting.now.items → AreReady ready.new live.now.items waiting.now.items }
     ensures whole { ready.new.whole ≡ ready.old.whole }
@@ -312,7 +312,7 @@ pub fn next_ready(ready: &mut Hints<u32>, live: &Lives, waiting: &Waits<Asking>)
 }
 
 impl Request {
-    /// A req to which nothing has happened.
+    /// A new req.
     pub fn new(alloc: Global, options: Options, raw: bool) -> Result<Request, NoMemory>
         requires { Fits options }
         ensures { IfOk result (λ m. Starts Ties m (req_kind raw options)) }
@@ -338,7 +338,7 @@ impl Request {
         }
     }
 
-    // A new request of the context takes the place of the one that is live.
+    // Begins a new request of the context in place of the live one.
     fn ask(&mut self, c: Ctx, m: &Message) -> Result<(), NoMemory>
         ensures asked { OnOk result (Asks c m.now.body self.old self.new) }
         ensures same { OnErr result (AsksNot self.old self.new) }
@@ -370,7 +370,7 @@ impl Request {
         Ok(())
     }
 
-    // Raw, its first word goes to the header.
+    // Keeps a raw reply: its first word goes to the header.
     fn keep_raw(&mut self, p: PipeId, m: Message) -> Verdict
         requires { m.header ≡ [] }
         ensures same { self.new ≡ record self.old { kept = self.new.kept } }
@@ -401,7 +401,7 @@ impl Request {
         answered(&mut self.live, c)
     }
 
-    // What goes out for a send of the context.
+    // The message that goes out for a send of the context.
     fn send(&mut self, c: Ctx, m: Message, out: Option<PipeId>) -> Message
         ensures same { self.new ≡ record self.old { live = self.new.live; dues = self.new.dues; last_pipe = self.new.last_pipe; roomy = self.new.roomy } }
         ensures pipe { (p : ℕ) → out ≡ Some p → self.new.last_pipe ≡ p }
@@ -428,7 +428,7 @@ impl Request {
         }
     }
 
-    // The state of the context has no place for it: a receive wants a live request, and no other receive.
+    // Returns whether the state of the context doesn't allow it: a receive needs a live request, and no other receive.
     fn has_state(&self, c: Ctx, verb: Verb) -> bool
         ensures { result ≡ ask_state self.now.waiting.items self.now.live.items c verb }
     {
@@ -491,7 +491,7 @@ impl Proto for Request {
         !self.raw || !self.kept.has(p)
     }
 
-    /// Cooked, it takes no memory.
+    /// A cooked one takes no memory for a frame.
     fn frame(&mut self, p: PipeId, m: Message) -> Verdict
         requires { m.header ≡ [] }
         ensures kept { (t : Moment) → Lawful (also t (Frame p m.body)) → Ties self.old t → Frames (Ties self.new) result t p m.body }
@@ -534,7 +534,7 @@ impl Proto for Request {
         Ok(())
     }
 
-    /// A raw one keeps no copy, so it is never out of memory for a request.
+    /// Never out of memory for a request of a raw socket: it keeps no copy.
     fn begin(&mut self, op: OpName, c: Ctx, act: Act) -> Result<(), Message>
         requires { 0 < places_left self.old }
         ensures begun { OnOk result ((t : Moment) (deadline : Option ℕ) → NoFlood t → Takes (Ties self.old) (Ties self.new) t (Begin op t.caller c (entry_act act) deadline)) }
@@ -567,14 +567,14 @@ impl Proto for Request {
         }
     }
 
-    /// One pipe more counts as roomy, in their round, so that each is tried again now and then.
+    /// Makes one more pipe count as roomy, in the round of the pipes, so that each is tried again now and then.
     fn fresh(&mut self) {
         self.ports.clear();
         try_again(&mut self.ports, &mut self.roomy, &mut self.retried);
     }
 
-    /// What goes out goes to the next roomy pipe behind that of the last Out, in the round of their numbers, if that
-    /// one is up and not full; else to the next of all such pipes.
+    /// What goes out goes to the next roomy pipe after that of the last Out, in the round of their numbers, if that one
+    /// is up and not full; else to the next of all such pipes.
     fn offer(&mut self) -> Offer
         ensures same { (t : Moment) → Ties self.old t → Ties self.new t }
         ensures offered { (t : Moment) → Lawful t → Calm t.z (past t) → Ties self.old t → IsOffered result t }

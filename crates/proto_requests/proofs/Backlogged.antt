@@ -1,4 +1,4 @@
--- The pipes of what is kept, when one more is kept, and when one is kept no longer.
+-- The pipes of what is kept, when one more is kept, and when one is no longer kept.
 use Rattle.std.proofs.Common.{◌≡◌, refl, ap, sym, subst, ◌∙◌, List, [], ◌∷◌, ◌++◌, ℕ, Bool, true, false, cond, arith, map, filter}
 use Rattle.std.specs.Prelude.{not, ◌||◌, ◌==◌, Result, Ok, Err, OnOk}
 use Rattle.std.specs.List.{list_any}
@@ -88,7 +88,7 @@ module _ {A : Type 0} (pipe : A → ℕ) where
   pub kept_left : (old new : ℕ → Bool) (p : ℕ) (xs ys : List A) → IsIndexed pipe old xs → ((q : ℕ) → new q ≡ cond (p == q) false (old q)) → ys ≡ filter (λ x. not (is_of pipe p x)) xs → IsIndexed pipe new ys
   kept_left old new p xs ys h u e = rw e (λ q. u q ∙ ap (λ b. cond (p == q) false b) (h.0 q) ∙ sym (any_left p q xs), distinct_left p xs h.1)
 
-  -- nothing is kept of it
+  -- nothing is kept of the pipe
   pub kept_all : (p : ℕ) (xs : List A) → list_any (is_of pipe p) xs ≡ false → xs ≡ filter (λ x. not (is_of pipe p x)) xs
   kept_all p [] h = refl
   kept_all p (x ∷ xs) h = go (pipe x == p) h (kept_all p xs)

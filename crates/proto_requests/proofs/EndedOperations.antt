@@ -1,4 +1,4 @@
--- Operations whose requests end: which of them are found by their contexts, and that each of them is looked at.
+-- Operations whose requests end: those that are found by their contexts, and that each of them is looked at.
 use Rattle.std.proofs.Common.{◌≡◌, refl, ap, sym, ◌∙◌, List, [], ◌∷◌, ℕ, ◌+◌, ◌<◌, Bool, true, false, cond, arith, Option, Some, None, map, length, filter, drop}
 use Rattle.std.specs.Prelude.{⊤, not, find, ◌||◌, ◌&&◌, ◌==◌}
 use Rattle.std.specs.List.{list_any, position, position_or_len}
@@ -21,7 +21,7 @@ use Rattle.proto_requests.proofs.TestValues.{both_false, equal_of, same_number, 
 
 -- ---- At most one passes a test
 
--- behind one that passes the test none passes it
+-- after an element that passes the test no other passes it
 abbrev pub AtMostOne : {A : Type 0} → (A → Bool) → List A → Type 0
 AtMostOne P [] = ⊤
 AtMostOne P (x ∷ xs) = (P x ≡ true → list_any P xs ≡ false) × AtMostOne P xs
@@ -43,7 +43,7 @@ module _ {A : Type 0} (f : A → A) where
       go true e n g again = ap (λ (l : List A). f x ∷ l) (neither P Q xs k (m.0 e) g)
       go false e n g again = ap (λ (y : A). y ∷ with_found P f xs) (sym (k x e n)) ∙ ap (λ (l : List A). f x ∷ l) again
 
-  -- the one that passes the one test is changed, then the one that passes the other
+  -- the one that passes one test is changed, then the one that passes the other test
   pub both_changed : (P Q : A → Bool) (xs : List A) → ((x : A) → P x ≡ false → Q x ≡ false → f x ≡ x) → ((x : A) → P x ≡ true → Q x ≡ false) → ((x : A) → P x ≡ true → Q (f x) ≡ false) → AtMostOne P xs → AtMostOne Q xs → with_found Q f (with_found P f xs) ≡ map f xs
   both_changed P Q [] k c d m n = refl
   both_changed P Q (x ∷ xs) k c d m n = go (P x) refl (Q x) refl (both_changed P Q xs k c d m.1 n.1)
@@ -70,7 +70,7 @@ module _ {A : Type 0} (f : A → A) where
       go true e h = ap (λ b. cond (not b) (1 + position_or_len Q xs) 0) (d x e) ∙ sym (ap (λ b. cond (not b) (1 + position_or_len Q xs) 0) (c x e))
       go false e h = ap (λ n. cond (not (Q x)) (1 + n) 0) h
 
-  -- where another one stands stays the same
+  -- the place of another one stays the same
   pub place_kept : (P Q : A → Bool) (xs : List A) → ((x : A) → P x ≡ true → Q x ≡ false) → ((x : A) → P x ≡ true → Q (f x) ≡ false) → position Q (with_found P f xs) ≡ position Q xs
   place_kept P Q xs c d = rw (place_with P Q xs c d, long_with P xs) refl
 
@@ -235,7 +235,7 @@ module _ {A : Type 0} (name : A → OpName) (context : A → ℕ) (sends is_left
 -- ---- By its name
 
 module _ {A : Type 0} (name : A → OpName) where
-  -- one of a name is the only one
+  -- the one with a name is the only one
   its_slot : (op : OpName) (xs : List A) → list_any (is_of (slot_of name) op.slot) xs ≡ false → list_any (is_named name op) xs ≡ false
   its_slot op xs h = none_as (is_of (slot_of name) op.slot) (is_named name op) xs (λ x k. ap (λ n. n == op.slot) (same_op-slot (name x) op k) ∙ same_number op.slot) h
 
@@ -315,7 +315,7 @@ module _ {A : Type 0} (name : A → OpName) (is_left : A → Bool) where
       it x true k = absurd cc
       it x false k = refl
 
-  -- it is looked at no more
+  -- it is no longer looked at
   pub dropped_over : (h g : HintsView OpName) (op : OpName) (xs : List A) → AreDistinct (map (slot_of name) xs) → Some op ≡ head_of h.items → g ≡ record { whole = h.whole; items = drop 1 h.items } → None ≡ over_name name is_left (find (is_named name op) xs)
       → list_any (is_overlooked name is_left h) xs ≡ false → list_any (is_overlooked name is_left g) xs ≡ false
   dropped_over h g op xs d e f n o = rw f (all xs o (not_over op xs (only_named name op xs d) n))

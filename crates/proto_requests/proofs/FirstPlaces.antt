@@ -1,4 +1,4 @@
--- Which elements of a list pass a test: none before the first, none of fewer, and the same behind a place.
+-- Elements of a list that pass a test: none before the first, none of fewer elements, and the same from a place on.
 use Rattle.std.proofs.Common.{◌≡◌, refl, ap, sym, ◌∙◌, List, [], ◌∷◌, ℕ, zero, suc, ◌+◌, ◌-◌, ◌≤◌, Bool, true, false, cond, arith, Option, Some, None, length, take, drop}
 use Rattle.std.specs.Prelude.{not, nat_lt, ◌||◌}
 use Rattle.std.specs.List.{list_any, position, position_or_len}
@@ -14,7 +14,7 @@ none_fewer P (suc k) zero xs l h = absurd (omega (arith, l))
 none_fewer P (suc k) (suc n) [] l h = refl
 none_fewer P (suc k) (suc n) (x ∷ xs) l h = let b = both_false (P x) (list_any P (take n xs)) h in ap (λ v. v || list_any P (take k xs)) b.0 ∙ none_fewer P k n xs (omega (arith, l)) b.1
 
--- one is changed, and does not pass then
+-- one is changed, and then does not pass
 none_with : {A : Type 0} (P Q : A → Bool) (f : A → A) (n : ℕ) (xs : List A) → ((x : A) → P (f x) ≡ false) → list_any P (take n xs) ≡ false → list_any P (take n (with_found Q f xs)) ≡ false
 none_with P Q f zero xs c h = refl
 none_with P Q f (suc n) [] c h = refl
@@ -49,7 +49,7 @@ none_before P (x ∷ xs) = go (P x) refl (none_before P xs)
     go true e h = refl
     go false e h = let next : 1 + position_or_len P xs ≡ suc (position_or_len P xs) = omega arith in rw next (ap (λ v. v || list_any P (take (position_or_len P xs) xs)) e ∙ h)
 
--- behind those that don't pass, the first is found
+-- after those that don't pass, the first is found
 past_first : {A : Type 0} (P : A → Bool) (n : ℕ) (xs : List A) → n ≤ length xs → list_any P (take n xs) ≡ false → position_or_len P xs ≡ n + position_or_len P (drop n xs)
 past_first P zero xs l h = omega arith
 past_first P (suc n) [] l h = absurd (omega (arith, l))

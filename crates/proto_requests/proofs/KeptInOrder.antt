@@ -1,4 +1,4 @@
--- What is kept of the pipes by its numbers, when one more is kept, and when one is kept no longer.
+-- What is kept of the pipes by its numbers, when one more is kept, and when one is no longer kept.
 use Rattle.std.proofs.Common.{◌≡◌, refl, ap, sym, subst, ◌∙◌, List, [], ◌∷◌, ◌++◌, ℕ, ◌+◌, ◌<◌, Bool, true, false, cond, arith, map, filter, Option, Some, None}
 use Rattle.std.specs.Prelude.{not, nat_lt, is_some, ◌&&◌, ◌||◌, ◌==◌}
 use Rattle.std.specs.declared.cmp.Ordering.{Ordering}
@@ -124,7 +124,7 @@ module _ {A : Type 0} (pipe : A → ℕ) where
       go true k again = absurd cc
       go false k again = ap (λ (rest : List (ℕ × A)). e ∷ rest) (again k)
 
-  -- nothing is kept of it
+  -- nothing is kept of the pipe
   pub values_same : (p : ℕ) (es : List (ℕ × A)) → number_of pipe p es ≡ None → values_of es ≡ filter (λ x. not (is_of pipe p x)) (values_of es)
   values_same p es h = kept_all pipe p (values_of es) (sym (any_number p es) ∙ ap is_some h)
 
@@ -139,7 +139,7 @@ module _ {A : Type 0} (pipe : A → ℕ) where
       go true q again = subst P (is q) h.0
       go false q again = again q
 
-  -- what is taken out by its number is what is of the pipe
+  -- what is removed by its number is what is kept of the pipe
   pub removed : (p n : ℕ) (es : List (ℕ × A)) → IsStrictlySortedBy nat_cmp (keys_of es) → AreDistinct (map pipe (values_of es)) → number_of pipe p es ≡ Some n → remove_entry (is_at (nat_cmp n)) es ≡ without_its p es
   removed p n [] o d q = refl
   removed p n (e ∷ es) o d q = go (pipe e.1 == p) refl q (removed p n es (sorted_tail nat_cmp e.0 (keys_of es) o) d.1)

@@ -54,7 +54,7 @@ module _ {A : Type 0} where
     apart (s ∷ ss) (suc k) zero d v w h l m e f same = absurd (omega (arith, l))
     apart (s ∷ ss) (suc k) (suc i) d v w h l m e f same = apart ss k i d v w (rest_distinct s.value (held ss) h) (omega (arith, l)) (omega (arith, m)) e f same
 
-    -- where no two have one number, the one that is found is the first
+    -- where no two have the same number, the one that is found is the first
     pub at_spot : (ss : List (Spot A)) (i : ℕ) (d : Spot A) (P : A → Bool) → AreDistinct (map key (held ss)) → i < length ss → holds P (slice_index_or ss i d) ≡ true → ((v w : A) → P v ≡ true → P w ≡ true → key v ≡ key w) → Some i ≡ position (holds P) ss
     at_spot ss i d P h l t s = sym (at_place_is _ _ _ (position_or_len_is (holds P) ss i d (omega (arith, l)) (λ k m. early k m (holds P (slice_index_or ss k d)) refl) (λ m. t)) l)
       where
@@ -65,7 +65,7 @@ module _ {A : Type 0} where
             let w = stands P (slice_index_or ss i d).value t in
             absurd (apart ss k i d v.0 w.0 h m l v.1 w.1 (s v.0 w.0 v.2 w.2))
 
-  -- the same, of those of some kind alone
+  -- the same, only for those of some kind
   module _ (key : A → ℕ) (R : A → Bool) where
     kind_there : (ss : List (Spot A)) (i : ℕ) (d : Spot A) (w : A) → i < length ss → (slice_index_or ss i d).value ≡ Some w → R w ≡ true → has (map key (filter R (held ss))) (key w) ≡ true
     kind_there [] i d w l e r = absurd (omega (arith, l))
@@ -271,7 +271,7 @@ module _ {A : Type 0} where
   pub any_less : (P Q : A → Bool) (xs ys : List A) → ys ≡ without_found Q xs → list_any P xs ≡ false → list_any P ys ≡ false
   any_less P Q xs ys e h = ap (list_any P) e ∙ any_without P Q xs h
 
-  -- what stays the same where requests end
+  -- what stays the same when requests end
   pub on_same : {B : Type 0} (key : A → B) (context : A → ℕ) (left : A → A) (c : ℕ) → ((x : A) → key (left x) ≡ key x) → (x : A) → key (left_on context left c x) ≡ key x
   on_same key context left c s x = go (c == context x)
     where
@@ -303,7 +303,7 @@ module _ {A : Type 0} where
     prefix (suc n) [] s l h = absurd (omega (arith, l))
     prefix (suc n) (r ∷ ss) s l h = let b = both_false (holds P r) (list_any (holds P) (take n ss)) h in ap (λ v. v || list_any (holds P) (take n (ss ++ s ∷ []))) b.0 ∙ prefix n ss s (omega (arith, l)) b.1
 
-    -- one more stands behind them
+    -- one more comes after them
     pub mark_more : (moved : Bool) (from : ℕ) (ss ts ys : List (Spot A)) (s : Spot A) → (moved ≡ false → ts ≡ ss) → ys ≡ ts ++ s ∷ [] → IsMark P from ss → IsMark P (stays moved from) ys
     mark_more true from ss ts ys s f e h = record { bound = omega arith; none = refl }
     mark_more false from ss ts ys s f e h =
@@ -312,12 +312,12 @@ module _ {A : Type 0} where
         let bound = h.bound in
         rw it (record { bound = omega (arith, long, bound); none = prefix from ss s h.bound h.none })
 
-    -- they are closed up, or stay
+    -- they are moved together, or stay
     pub mark_kept : (moved : Bool) (from k : ℕ) (ss us : List (Spot A)) → k ≡ stays moved from → (moved ≡ false → us ≡ ss) → IsMark P from ss → IsMark P k us
     mark_kept true from k ss us e f h = rw e (record { bound = omega arith; none = refl })
     mark_kept false from k ss us e f h = let same = f refl in rw (e, same) h
 
-    -- the first one was looked for
+    -- the first one was looked up
     pub mark_found : (o : Option ℕ) (l k : ℕ) (ss : List (Spot A)) → k ≡ reached o l → l ≡ length ss → o ≡ position (holds P) ss → IsMark P k ss
     mark_found o l k ss e f h = record { bound = go o e (λ i q. inside P ss i (sym h ∙ q)); none = none_reached (holds P) o l k ss e f h }
       where

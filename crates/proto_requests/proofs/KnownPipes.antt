@@ -1,4 +1,4 @@
--- Which pipes a machine knows.
+-- The pipes that a machine knows.
 use Rattle.std.proofs.Common.{◌≡◌, refl, ap, ◌∙◌, List, [], ◌∷◌, ◌++◌, ℕ, ◌+◌, Bool, true, false, arith, map, ◌<◌, ◌≤◌}
 use Rattle.std.specs.Prelude.{filter, not, ◌||◌, ◌==◌}
 use Rattle.std.specs.List.{list_all}

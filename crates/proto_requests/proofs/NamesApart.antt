@@ -1,4 +1,4 @@
--- Pending operations whose names are apart, without one of them and with one more.
+-- Pending operations whose names are distinct, without one of them and with one more.
 use Rattle.std.proofs.Common.{◌≡◌, refl, subst, List, [], ◌∷◌, ◌++◌, ℕ, ◌+◌, Bool, true, false, cond, arith, ◌≤◌}
 use Rattle.std.specs.Prelude.{◌||◌, ◌==◌}
 use Rattle.std.specs.List.{list_any}

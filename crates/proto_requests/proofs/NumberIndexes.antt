@@ -1,4 +1,4 @@
--- What is known by the numbers of the elements of a list, when one is taken out or changed; and where one stands.
+-- What is known by the numbers of the elements of a list, when one is taken out or changed; and the place of one.
 use Rattle.std.proofs.Common.{◌≡◌, refl, ap, sym, subst, ◌∙◌, List, [], ◌∷◌, ℕ, zero, suc, ◌<◌, Bool, true, false, cond, arith, Option, Some, None, map, length, slice_index_or}
 use Rattle.std.specs.Prelude.{not, find, is_some, ◌||◌, ◌==◌}
 use Rattle.std.specs.List.{list_any, position}
@@ -98,7 +98,7 @@ module _ {A : Type 0} (key : A → ℕ) where
   apart (x ∷ xs) (suc k) zero d h l m e = absurd (omega (arith, l))
   apart (x ∷ xs) (suc k) (suc i) d h l m e = apart xs k i d h.1 (omega (arith, l)) (omega (arith, m)) e
 
-  -- where no two have one number, the one that is found is the first
+  -- where no two have the same number, the one that is found is the first
   pub at_place : (xs : List A) (i : ℕ) (d : A) (P : A → Bool) → AreDistinct (map key xs) → i < length xs → P (slice_index_or xs i d) ≡ true → ((v w : A) → P v ≡ true → P w ≡ true → key v ≡ key w) → Some i ≡ position P xs
   at_place xs i d P h l t s = sym (at_place_is _ _ _ (position_or_len_is P xs i d (omega (arith, l)) (λ k m. early k m (P (slice_index_or xs k d)) refl) (λ m. t)) l)
     where

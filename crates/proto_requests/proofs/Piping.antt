@@ -1,4 +1,4 @@
--- What becomes of the pipes that a machine knows.
+-- Changes of the pipes that a machine knows.
 use Rattle.std.proofs.Common.{◌≡◌, refl, ap, sym, ◌∙◌, subst, List, [], ◌∷◌, ◌++◌, ℕ, ◌+◌, Bool, true, false, cond, arith, Some, None, map, ◌<◌, ◌≤◌}
 use Rattle.std.specs.Prelude.{find, filter, not, nat_lt, ◌&&◌, ◌||◌, ◌==◌}
 use Rattle.std.specs.List.{list_all}
@@ -99,7 +99,7 @@ module _ (full : ℕ → Bool) (p : ℕ) where
       go true h = plus-more (full u) _ _ h
       go false h = plus-le (full u) _ _ h
 
-  -- without one that was not full, fewer are left that are not
+  -- without one that was not full, fewer are left that are not full
   pub fewer_free : (us : List ℕ) → full p ≡ false → has us p ≡ true → free_count (map (port_of full) (without us p)) < free_count (map (port_of full) us)
   fewer_free [] f h = absurd cc
   fewer_free (u ∷ us) f h = go (u == p) refl h (no_more_free us) (fewer_free us f)
@@ -127,7 +127,7 @@ module _ (full : ℕ → Bool) (p : ℕ) where
       go true h = plus-more (full u) _ _ h
       go false h = plus-le (full u) _ _ h
 
-  -- with one found full that was not, fewer are left that are not
+  -- once one that was not full is found full, fewer are left that are not full
   pub marks_fewer : (us : List ℕ) → full p ≡ false → has us p ≡ true → free_count (map (port_of (λ q. (p == q) || full q)) us) < free_count (map (port_of full) us)
   marks_fewer [] f h = absurd cc
   marks_fewer (u ∷ us) f h = go (u == p) refl h (p == u) refl (marks_no_more us) (marks_fewer us f)
@@ -215,7 +215,7 @@ module _ (full : ℕ → Bool) (us : List ℕ) where
       go true e false h = absurd cc
       go false e f h = gone us e
 
--- the pipe stands among those of this number where it stands at all
+-- the pipe is among those of this number if it is there at all
 pub has_number : (us : List ℕ) (q p : ℕ) → has (filter (is_number (Some q)) us) p ≡ ((q == p) && has us p)
 has_number [] q p = and_none (q == p)
   where

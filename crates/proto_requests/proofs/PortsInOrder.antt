@@ -1,4 +1,4 @@
--- The pipes are found by their numbers, in whose order they stand; and those that are full are skipped.
+-- The pipes are found by their numbers, in whose order they are kept; and those that are full are skipped.
 use Rattle.std.proofs.Common.{◌≡◌, refl, ap, sym, ◌∙◌, subst, List, [], ◌∷◌, ◌++◌, ℕ, zero, suc, ◌+◌, ◌^◌, ◌<◌, ◌≤◌, Bool, true, false, cond, arith, Option, Some, None, Result, Ok, Err, map, nat_cmp, is_eq, is_lt, is_le, Ordering, Less, Equal, Greater}
 use Rattle.std.specs.Prelude.{OnOk, OnErr, find, filter, not, nat_lt, nat_le, slice_get, is_some, ◌==◌, ◌&&◌, ◌||◌}
 use Rattle.std.specs.List.{AllByRecursion, list_all, list_any}
@@ -175,7 +175,7 @@ both_of : (a b : Bool) → (a && b) ≡ true → (a ≡ true) × (b ≡ true)
 both_of true b e = (refl, e)
 both_of false b e = absurd cc
 
--- one above all others stands behind them
+-- one above all others comes after them
 pub put_last : (p : ℕ) (xs : List (ℕ × ℕ)) → list_all (is_under p) xs ≡ true → insert_entry nat_cmp xs p 0 ≡ xs ++ (p, 0) ∷ []
 put_last p [] h = refl
 put_last p (x ∷ xs) h =
@@ -360,7 +360,7 @@ in_rest turn from (x ∷ xs) = rw (in_range from x.0) (go (nat_lt x.0 from) (x.1
     go false true e h = rw e h
     go false false e h = rw e refl
 
--- a full one is passed over
+-- a full one is skipped
 pub one_passed : (turn : ℕ) (x : ℕ × ℕ) (xs rest : List (ℕ × ℕ)) (found : Option (ℕ × ℕ)) → xs ≡ x ∷ rest → (x.1 == turn) ≡ true → find (is_open turn) xs ≡ found → find (is_open turn) rest ≡ found
 one_passed turn x xs rest found e full h = sym (ap (λ (b : Bool). cond (not b) (Some x) (find (is_open turn) rest)) full) ∙ sym (ap (find (is_open turn)) e) ∙ h
 
@@ -383,7 +383,7 @@ pub full_past : (turn from : ℕ) (xs : List (ℕ × ℕ)) → 2 ^ 32 ≤ from �
 full_past turn from [] l = tt
 full_past turn from (x ∷ xs) l = (λ k m. absurd (omega (arith, k, l, m)), full_past turn from xs l)
 
--- those that are full are passed over
+-- those that are full are skipped
 passed : (turn from to : ℕ) (xs : List (ℕ × ℕ)) → from ≤ to → AreFull turn from to xs → find (is_free_from turn from) xs ≡ find (is_free_from turn to) xs
 passed turn from to [] l h = refl
 passed turn from to (x ∷ xs) l h = go (nat_lt x.0 from) refl (nat_lt x.0 to) refl (x.1 == turn) refl (passed turn from to xs l h.1)
@@ -407,7 +407,7 @@ equal_is m n h = go (nat_lt m n) (m == n) refl h
     go false true e h = equal_of m n e
     go false false e h = absurd cc
 
--- a stretch that is looked up is one that was passed over
+-- a stretch that is looked up is one that was skipped
 found_passed : (turn from to : ℕ) (es xs : List (ℕ × ℕ)) → AllPassed turn es xs → lookup (is_at (nat_cmp from)) es ≡ Some to → AreFull turn from to xs
 found_passed turn from to [] xs h f = absurd cc
 found_passed turn from to (e ∷ es) xs h f = go (e.0 == from) refl (sym (ap (λ (b : Bool). cond b (Some e.1) (lookup (is_at (nat_cmp from)) es)) (same_key from e.0)) ∙ f) (found_passed turn from to es xs h.1)
@@ -416,7 +416,7 @@ found_passed turn from to (e ∷ es) xs h f = go (e.0 == from) refl (sym (ap (λ
     go true k f again = subst (λ n. AreFull turn n to xs) (equal_of e.0 from k) (subst (λ n. AreFull turn e.0 n xs) (some_inj e.1 to f) h.0)
     go false k f again = again f
 
--- from the number on, or from the one up to which all from there are full
+-- the search begins at the number, or at the one up to which all from there are full
 pub begins : (turn from : ℕ) (es xs : List (ℕ × ℕ)) → AllPassed turn es xs
     → AreFull turn from (begin_at (lookup (is_at (nat_cmp from)) es) from) xs × (find (is_free_from turn from) xs ≡ find (is_free_from turn (begin_at (lookup (is_at (nat_cmp from)) es) from)) xs)
 begins turn from es xs h = go (lookup (is_at (nat_cmp from)) es) refl
@@ -442,7 +442,7 @@ passed_more turn from to (e ∷ es) xs f h = go (nat_cmp from e.0) refl (passed_
     go Equal k again = (subst (λ n. AreFull turn n to xs) (equal_is from e.0 k) f, h.1)
     go Greater k again = (h.0, again)
 
--- or it is not, with no memory
+-- or it is not remembered, when out of memory
 pub passed_after : {A B : Type 0} (r : Result A B) (turn from to : ℕ) (es new xs : List (ℕ × ℕ)) → OnOk r (new ≡ insert_entry nat_cmp es from to) → OnErr r (new ≡ es) → AreFull turn from to xs → AllPassed turn es xs → AllPassed turn new xs
 passed_after (Ok x) turn from to es new xs put same f h = subst (λ rest. AllPassed turn rest xs) (sym put) (passed_more turn from to es xs f h)
 passed_after (Err x) turn from to es new xs put same f h = subst (λ rest. AllPassed turn rest xs) (sym same) h
@@ -462,7 +462,7 @@ filled turn from (x ∷ xs) h = go (nat_lt x.0 from) refl (x.1 == turn) refl (fi
     go false e true k rest = (λ l m. k, rest)
     go false e false k rest = (λ l m. absurd (omega (arith, m)), above_full turn from x.0 xs (sorted_head nat_cmp x.0 (keys_of xs) h))
 
--- one span behind the other
+-- one span after another
 pub joined : (turn from mid to : ℕ) (xs : List (ℕ × ℕ)) → AreFull turn from mid xs → AreFull turn mid to xs → AreFull turn from to xs
 joined turn from mid to [] h k = tt
 joined turn from mid to (x ∷ xs) h k = (λ l m. go (nat_lt x.0 mid) refl l m, joined turn from mid to xs h.1 k.1)

@@ -1,4 +1,4 @@
--- Where in a list the first stands that passes a test, and loops that write each element.
+-- The place of the first element of a list that passes a test, and loops that write each element.
 use Rattle.std.proofs.Common.{◌≡◌, refl, ap, sym, Option, ◌∙◌, List, [], ◌∷◌, ◌++◌, ℕ, zero, suc, ◌+◌, Bool, true, false, cond, arith, Some, None, length, take, drop, map, slice_index_or, slice_set, ◌<◌, ◌≤◌, add-one}
 use Rattle.std.specs.Prelude.{find, nat_lt, remove, ◌||◌, Vec}
 use Rattle.proto_requests.specs.FirstFound.{without_found, with_found}
@@ -16,7 +16,7 @@ first_is p (x ∷ xs) (suc i) d h t b =
     let no : p x ≡ false = b 0 (omega arith) in
     rw no (first_is p xs i d (omega (arith, h)) t (λ k l. b (suc k) (omega (arith, l))))
 
--- the place of the first is where it stands
+-- the place of the first is where it is
 pub found_at : {A : Type 0} (p : A → Bool) (xs : List A) (i : ℕ) (d : A) → position p xs ≡ Some i → find p xs ≡ Some (slice_index_or xs i d)
 found_at p xs i d h = let at = position-Some p xs i d h in first_is p xs i d at.0 at.1 at.2
 
@@ -37,7 +37,7 @@ writes f [] i d h = absurd (omega arith)
 writes f (x ∷ xs) zero d h = refl
 writes f (x ∷ xs) (suc i) d h = ap (λ rest. f x ∷ rest) (writes f xs i d (omega (arith, h)))
 
--- one element more was written
+-- one more element was written
 pub written : {A : Type 0} (f : A → A) (xs ys : List A) (i : ℕ) (d v : A) → i < length xs → ys ≡ map f (take i xs) ++ drop i xs → v ≡ f (slice_index_or ys i d)
     → slice_set ys i v ≡ map f (take (i + 1) xs) ++ drop (i + 1) xs
 written f xs ys i d v h e w =

@@ -1,4 +1,4 @@
--- Spots of which one is emptied, and what stands in the others.
+-- Spots, one of which is emptied, and what is in the others.
 use Rattle.std.proofs.Common.{◌≡◌, refl, ap, sym, ◌∙◌, List, [], ◌∷◌, ◌++◌, ℕ, zero, suc, ◌+◌, ◌<◌, ◌≤◌, Bool, true, false, cond, arith, Option, Some, None, length, take, drop, slice_index_or, slice_set}
 use Rattle.std.specs.Prelude.{Vec, find, filter, is_some, ◌||◌, Result, Ok, Err, OnOk}
 use Rattle.std.specs.List.{list_any, position}
@@ -12,12 +12,12 @@ use Rattle.std.proofs.lemmas.List.{with_items_is}
 use Rattle.std.specs.Vec.{with_items}
 use Rattle.proto_requests.proofs.TestValues.{both_false}
 
--- the spot, with nothing there
+-- the spot, empty
 abbrev pub emptied : {A : Type 0} → Spot A → Spot A
 emptied s = record { number = s.number; value = None }
 
 module _ {A : Type 0} where
-  -- ---- Closed up
+  -- ---- Moved together
 
   pub kept_held : (ss : List (Spot A)) → held (filter (λ (s : Spot A). is_some s.value) ss) ≡ held ss
   kept_held [] = refl
@@ -111,7 +111,7 @@ module _ {A : Type 0} where
       go [] e = refl
       go (s ∷ ss) e = step s ss (holds P s) refl e (go ss)
 
-  -- where one stands, something stands
+  -- where one is, something is there
   pub stands_there : (P : A → Bool) (ss : List (Spot A)) (i : ℕ) (d : Spot A) → position (holds P) ss ≡ Some i → (slice_index_or ss i d).value ≡ None → ⊥
   stands_there P ss i d h e = let at = position-Some (holds P) ss i d h in let bad : false ≡ true = ap (any_in P) (sym e) ∙ at.1 in absurd cc
 
@@ -149,7 +149,7 @@ pub unmapped : {A B : Type 0} (f : A → B) (o : Option A) → None ≡ option_m
 unmapped f None h = refl
 unmapped f (Some x) h = absurd cc
 
--- one that stands there is found
+-- one that is there is found
 pub never : {A : Type 0} (P : A → Bool) (ss : List (Spot A)) (i : ℕ) → position (holds P) ss ≡ Some i → None ≡ find P (held ss) → ⊥
 never {A} P ss i h e = let d : Spot A = record { number = 0; value = None } in stands_there P ss i d h (sym (found_there P ss i d h) ∙ sym e)
 
@@ -184,7 +184,7 @@ module _ {A : Type 0} (P : A → Bool) (f : A → A) where
   pub changed_there : (ss : List (Spot A)) (i : ℕ) (d : Spot A) → position (holds P) ss ≡ Some i → held (slice_set ss i (changed f (slice_index_or ss i d))) ≡ with_found P f (held ss)
   changed_there ss i d h = let at = position-Some (holds P) ss i d h in changes ss i d at.0 at.1 at.2
 
--- as many stand before a spot
+-- the same number are before a spot
 pub prefix_same : {A : Type 0} (f : A → A) (n : ℕ) (ss : List (Spot A)) (i : ℕ) (d : Spot A) → length (held (take n (slice_set ss i (changed f (slice_index_or ss i d))))) ≡ length (held (take n ss))
 prefix_same {A} f zero ss i d = refl
 prefix_same {A} f (suc n) [] i d = refl
@@ -232,7 +232,7 @@ module _ {A : Type 0} where
 pub none_of_none : {A : Type 0} (P : A → Bool) (n : ℕ) (xs : List A) → n ≡ 0 → list_any P (take n xs) ≡ false
 none_of_none P n xs e = rw e refl
 
--- ---- Closed up, or as it was
+-- ---- Moved together, or as it was
 
 module _ {A : Type 0} where
   pub calm_closed : (P : A → Bool) (moved : Bool) (n k : ℕ) (ss us : List (Spot A)) → k ≡ stays moved n → (moved ≡ false → us ≡ ss) → list_any P (take (length (held (take n ss))) (held ss)) ≡ false → list_any P (take (length (held (take k us))) (held us)) ≡ false

@@ -1,4 +1,4 @@
--- What tests of numbers, and of a raw or a cooked socket, come to.
+-- What tests of numbers, and of a raw or a cooked socket, give.
 use Rattle.std.proofs.Common.{◌≡◌, refl, sym, ◌∙◌, ℕ, Bool, true, false, arith, Some}
 use Rattle.std.specs.Prelude.{not, ◌||◌, ◌&&◌, ◌==◌}
 use Rattle.std.proofs.lemmas.Bool.Decides.{nat_tests}

@@ -12,7 +12,7 @@ pub record BacklogView (A : Type 0) : Type 0 where
 abbrev pub is_of : {A : Type 0} → (A → ℕ) → ℕ → A → Bool
 is_of number q x = number x == q
 
--- these are the numbers of the elements, and no two have one
+-- these are the numbers of the elements, and no two have the same one
 abbrev pub IsIndexed : {A : Type 0} → (A → ℕ) → (ℕ → Bool) → List A → Type 0
 IsIndexed number known xs = ((q : ℕ) → known q ≡ list_any (is_of number q) xs) × AreDistinct (map number xs)
 
@@ -23,7 +23,7 @@ abbrev pub number_of : {A : Type 0} → (A → ℕ) → ℕ → List (ℕ × A) 
 number_of pipe q [] = None
 number_of pipe q (e ∷ es) = if pipe e.1 == q then Some e.0 else number_of pipe q es
 
--- the number is known by the pipe, no two are of one pipe, and each has a number below the next one
+-- the number is known by the pipe, no two are of one pipe, and each has a number below the next one to be given
 pub record AreNumbered {A : Type 0} (pipe : A → ℕ) (known : ℕ → Option ℕ) (next : ℕ) (es : List (ℕ × A)) : Type 0 where
   pub numbers : (q : ℕ) → known q ≡ number_of pipe q es
   pub apart : AreDistinct (map pipe (values_of es))

@@ -19,6 +19,6 @@ covers h q = covers_by h (λ n. n == q)
 abbrev pub StayCovered : {A : Type 0} → HintsView A → HintsView A → Type 0
 StayCovered {A} old new = (P : A → Bool) → covers_by old P ≡ true → covers_by new P ≡ true
 
--- the same of numbers
+-- the same for numbers
 abbrev pub StayAmong : HintsView ℕ → HintsView ℕ → Type 0
 StayAmong old new = (q : ℕ) → covers old q ≡ true → covers new q ≡ true

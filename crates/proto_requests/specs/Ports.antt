@@ -1,4 +1,4 @@
--- The pipes that a machine knows as up, and which of them it found full.
+-- The pipes that a machine knows as up, and those that it found full.
 use Rattle.std.specs.Prelude.{◌≡◌, ◌<◌, ◌≤◌, ℕ, ◌+◌, ◌^◌, ◌==◌, ◌&&◌, ◌||◌, nat_lt, nat_le, Bool, true, false, not, ⊤, if◌then◌else◌, List, [], ◌∷◌, map, find, Option, Some, None}
 use Rattle.sp_history.specs.Lists.{has}
 use Rattle.proto_requests.specs.declared.ports.Destination.{Destination}
@@ -13,7 +13,7 @@ pub record PortView : Type 0 where
 pub record PortsView : Type 0 where
   pub items : List PortView
 
--- a pipe that is up, where these pipes are full
+-- a pipe that is up, full or not as the function says
 abbrev pub port_of : (ℕ → Bool) → ℕ → PortView
 port_of full p = record { pipe = p; is_full = full p }
 
@@ -30,12 +30,12 @@ is_pipe p x = x.pipe == p
 abbrev pub is_free : PortView → Bool
 is_free x = not x.is_full
 
--- the one, or else the other
+-- the first, or else the second
 abbrev pub or_else : {A : Type 0} → Option A → Option A → Option A
 or_else None y = y
 or_else (Some x) y = Some x
 
--- the first of the pipes that is free and behind this number, or else the first that is free
+-- the first of the pipes that is free and after this number, or else the first that is free
 abbrev pub next_number : (ℕ → Bool) → ℕ → List ℕ → Option ℕ
 next_number free last us = or_else (find (λ q. free q && nat_lt last q) us) (find free us)
 
@@ -48,7 +48,7 @@ is_free_at from x = not (nat_lt x.pipe from) && is_free x
 abbrev pub next_port : ℕ → List PortView → Option PortView
 next_port last xs = or_else (find (is_free_behind last) xs) (find is_free xs)
 
--- how many of the pipes are not full
+-- the number of pipes that are not full
 abbrev pub free_count : List PortView → ℕ
 free_count [] = 0
 free_count (x ∷ xs) = if x.is_full then free_count xs else free_count xs + 1
@@ -57,12 +57,12 @@ abbrev pub way_at : ℕ → Option PortView → Destination
 way_at p None = ways.Nowhere
 way_at p (Some x) = if x.is_full then ways.Full else ways.To p
 
--- whether what goes to this pipe alone can go
+-- whether what goes only to this pipe can go
 abbrev pub where_is : List PortView → Option ℕ → Destination
 where_is xs None = ways.Nowhere
 where_is xs (Some p) = way_at p (find (is_pipe p) xs)
 
--- the pipes that are up, and which of them are full, none above the last one that came up
+-- the pipes that are up, those of them that are full, and none above the last one that came up
 pub record Knows (ps : List PortView) (us : List ℕ) (last : ℕ) (full : ℕ → Bool) : Type 0 where
   pub ports : ps ≡ map (port_of full) us
   pub known : (q : ℕ) → has us q ≡ true → q ≤ last
@@ -97,7 +97,7 @@ is_free_from turn from x = not (nat_lt x.0 from) && is_open turn x
 abbrev pub unmarked : ℕ × ℕ → ℕ × ℕ
 unmarked x = (x.0, 0)
 
--- where all from the number up to another are known as full, that one
+-- where all from the number up to another one are known to be full, that one
 abbrev pub begin_at : Option ℕ → ℕ → ℕ
 begin_at None from = from
 begin_at (Some to) from = if nat_le from to then to else from
@@ -116,12 +116,12 @@ abbrev pub AreUpTo : ℕ → List (ℕ × ℕ) → Type 0
 AreUpTo turn [] = ⊤
 AreUpTo turn (x ∷ xs) = (x.1 ≤ turn) × AreUpTo turn xs
 
--- each with a number from the one up to the other is full
+-- each with a number from one up to the other is full
 abbrev pub AreFull : ℕ → ℕ → ℕ → List (ℕ × ℕ) → Type 0
 AreFull turn from to [] = ⊤
 AreFull turn from to (x ∷ xs) = (from ≤ x.0 → x.0 < to → is_full_in turn x ≡ true) × AreFull turn from to xs
 
--- each stretch that was passed over: from its number on, up to the other, all are full
+-- each stretch that was skipped: from its number on, up to the other, all are full
 abbrev pub AllPassed : ℕ → List (ℕ × ℕ) → List (ℕ × ℕ) → Type 0
 AllPassed turn [] xs = ⊤
 AllPassed turn (e ∷ es) xs = AreFull turn e.0 e.1 xs × AllPassed turn es xs

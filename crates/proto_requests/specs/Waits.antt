@@ -10,7 +10,7 @@ use Rattle.proto_requests.specs.Numbers.{is_known}
 use Rattle.proto_requests.specs.Spots.{holds, held}
 use Rattle.proto_requests.specs.declared.spots.Spot.{Spot}
 
--- the operations, in the order of their begins, and how many more have room
+-- the operations, in the order of their begins, and how many more there is room for
 pub record WaitsView (A : Type 0) : Type 0 where
   pub items : List A
   pub room : ℕ
@@ -66,13 +66,14 @@ is_overlooked name is_left h x = is_left x && not (covers_by h (same_op (name x)
 abbrev pub AreLookedAt : {A : Type 0} → (A → OpName) → (A → Bool) → HintsView OpName → List (Spot A) → Type 0
 AreLookedAt name is_left h ss = list_any (is_overlooked name is_left h) (held ss) ≡ false
 
--- none that passes the test stands before this spot
+-- none that passes the test is before this spot
 pub record IsMark {A : Type 0} (P : A → Bool) (from : ℕ) (ss : List (Spot A)) : Type 0 where
   pub bound : from ≤ length ss
   pub none : list_any (holds P) (take from ss) ≡ false
 
--- No two have one slot, no two receives one context, no two open sends one context, and these are known, if it is said.
--- No send stands before the one spot, no receive before the other. Those whose requests have ended are to be looked at.
+-- No two have the same slot, no two receives the same context, no two open sends the same context, and these are known,
+-- where the flags say so. No send is before one spot, no receive before the other. Those whose requests have ended are
+-- to be looked at.
 pub record AreNoted {A : Type 0} (name : A → OpName) (context : A → ℕ) (sends : A → Bool) (is_left : A → Bool) (slots_known : Bool) (slots : List (ℕ × ℕ)) (receives_known : Bool) (receives : List (ℕ × ℕ)) (sends_known : Bool) (opens : List (ℕ × ℕ)) (send_from receive_from : ℕ) (ended : HintsView OpName) (ss : List (Spot A)) : Type 0 where
   pub by_slot : slots_known ≡ true → IsIndexed (slot_of name) (is_known slots) (held ss)
   pub by_receive : receives_known ≡ true → IsIndexed context (is_known receives) (filter (isnt sends) (held ss))
@@ -81,7 +82,7 @@ pub record AreNoted {A : Type 0} (name : A → OpName) (context : A → ℕ) (se
   pub receive : IsMark (isnt sends) receive_from ss
   pub left : AreLookedAt name is_left ended ss
 
--- no two receives are of one context, nor two open sends, and these contexts are known
+-- no two receives are of the same context, nor two open sends, and these contexts are known
 abbrev pub AreApartOn : {A : Type 0} → (A → ℕ) → (A → Bool) → (A → Bool) → List (ℕ × ℕ) → List (ℕ × ℕ) → List (Spot A) → Type 0
 AreApartOn context sends is_left receives opens ss =
     IsIndexed context (is_known receives) (filter (isnt sends) (held ss)) × IsIndexed context (is_known opens) (filter (is_open sends is_left) (held ss))

@@ -1,7 +1,7 @@
 //! What is kept of the pipes.
 //!
-//! It is numbered as it comes, and held in the order of these numbers. The number of what is kept of a pipe is known by
-//! the pipe. So a message that is kept, given or dropped moves no other.
+//! Messages are numbered as they come, and kept in the order of these numbers. A pipe gives the number of what is kept
+//! of it. So a message that is kept, given or dropped moves no other.
 ghost use Rattle.std.specs.Prelude.{◌≡◌, ◌++◌, ◌∷◌, ◌==◌, ℕ, [], true, false, not, if◌then◌else◌, filter, drop, length, option_to_list, OnOk, OnErr};
 ghost use Rattle.std.specs.List.{list_any};
 ghost use Rattle.sp_history.specs.Lists.{head_of};
@@ -26,11 +26,11 @@ pub trait FromPipe: Drop {
 /// What is kept, at most one of each pipe.
 #[derive(Drop)]
 pub struct Backlog<T: FromPipe> {
-    /// By its number, the oldest first.
+    /// What is kept, by its number, the oldest first.
     kept: BTreeMap<u64, T>,
     /// The number of what is kept of each pipe.
     numbers: Numbers,
-    /// The number of what comes next, above all that is kept.
+    /// The number of what comes next, above those of all that is kept.
     next: u64,
 }
 
@@ -58,22 +58,22 @@ impl<T: FromPipe> Backlog<T> {
         }
     }
 
-    /// Nothing is kept.
+    /// Returns whether nothing is kept.
     pub fn is_empty(&self) -> bool
         ensures { result ≡ (length self.now.items == 0) }
     {
         self.kept.len() == 0
     }
 
-    /// One of the pipe is kept.
+    /// Returns whether something of the pipe is kept.
     pub fn has(&self, p: PipeId) -> bool
         ensures { result ≡ list_any (is_of T.pipe_of p) self.now.items }
     {
         self.numbers.has(p.0)
     }
 
-    /// Keeps one of a pipe of which none is kept; another is dropped. Where there is no memory, or 2^64 - 1 were kept
-    /// before, all is as before.
+    /// Keeps one of a pipe of which none is kept; another one is dropped. Where there is no memory, or 2^64 - 1 were
+    /// kept before, nothing changes.
     pub fn push(&mut self, item: T) -> Result<(), NoMemory>
         ensures more { OnOk result (list_any (is_of T.pipe_of (T.pipe_of item)) self.old.items ≡ false → self.new.items ≡ self.old.items ++ item ∷ []) }
         ensures same { OnErr result (self.new ≡ self.old) }
@@ -97,7 +97,7 @@ impl<T: FromPipe> Backlog<T> {
         Ok(())
     }
 
-    /// Takes the oldest.
+    /// Takes out the oldest.
     pub fn pop(&mut self) -> Option<T>
         ensures items { self.old.items ≡ option_to_list result ++ self.new.items }
         ensures first { result ≡ head_of self.old.items }
@@ -119,7 +119,7 @@ impl<T: FromPipe> Backlog<T> {
         match self.numbers.get(p.0) {
             None => {}
             Some(n) => {
-                // Gives the proof that the numbers are in order.
+                // Brings into the proof that the numbers are in order.
                 let _len = self.kept.len();
                 let _ = self.kept.remove(&n);
                 self.numbers.remove(p.0);

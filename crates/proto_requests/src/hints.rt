@@ -1,7 +1,7 @@
-//! What is worth a look.
+//! Entries that are worth a look.
 //!
-//! Entries, in the order in which they came, among them each one that is worth a look, and others as well. Where there
-//! was no room for one, all are.
+//! The entries are in the order in which they came. Each that is worth a look is among them, and others as well. Where
+//! there was no room for one, all count as worth a look.
 ghost use Rattle.std.specs.Prelude.{◌≡◌, ◌⊎◌, ◌++◌, ◌∷◌, Bool, true, false, [], drop, length};
 ghost use Rattle.sp_history.specs.Lists.{head_of};
 ghost use Rattle.proto_requests.specs.Hints.{covers_by, StayCovered};
@@ -11,12 +11,12 @@ use std::alloc::Global;
 use std::collections::VecDeque;
 use std::marker::Model;
 
-/// Entries that are worth a look. A look, an `add` and a `drop_first` cost the same however many they are.
+/// Entries that are worth a look. A look, an `add` and a `drop_first` cost the same for any number of entries.
 #[derive(Drop)]
 pub struct Hints<T: Copy> {
-    /// The oldest first.
+    /// The entries, the oldest first.
     queue: VecDeque<T>,
-    /// They are all among these.
+    /// Whether all that are worth a look are here.
     is_whole: bool,
 }
 
@@ -29,7 +29,7 @@ impl<T: Copy> Model for Hints<T> {
 }
 
 impl<T: Copy> Hints<T> {
-    /// None is worth a look.
+    /// No entries.
     pub fn new(alloc: Global) -> Hints<T>
         ensures { result ≡ record { whole = true; items = [] } }
     {
@@ -39,14 +39,14 @@ impl<T: Copy> Hints<T> {
         }
     }
 
-    /// They are all among these.
+    /// Returns whether all that are worth a look are here.
     pub fn is_whole(&self) -> bool
         ensures { result ≡ self.now.whole }
     {
         self.is_whole
     }
 
-    /// How many they are.
+    /// The number of entries.
     pub fn len(&self) -> usize
         ensures { result ≡ length self.now.items }
     {
@@ -60,14 +60,14 @@ impl<T: Copy> Hints<T> {
         self.queue.front().copied()
     }
 
-    /// The oldest is not looked at any more.
+    /// Removes the oldest.
     pub fn drop_first(&mut self)
         ensures { self.new ≡ record { whole = self.old.whole; items = drop 1 self.old.items } }
     {
         let _ = self.queue.pop_front();
     }
 
-    /// Takes the room for so many more.
+    /// Makes room for `more` more entries.
     pub fn reserve(&mut self, more: usize) -> Result<(), NoMemory>
         ensures { self.new ≡ self.old }
     {
@@ -77,7 +77,7 @@ impl<T: Copy> Hints<T> {
         }
     }
 
-    /// The entry is worth a look. Takes no memory.
+    /// Adds an entry that is worth a look. Takes no memory.
     pub fn add(&mut self, x: T)
         ensures more { (P : T → Bool) → P x ≡ true → covers_by self.new P ≡ true }
         ensures same { StayCovered self.old self.new }
@@ -90,7 +90,7 @@ impl<T: Copy> Hints<T> {
         }
     }
 
-    /// What is worth a look there is so here, in its place. Takes no memory.
+    /// Moves the entries of `other` here. Takes no memory.
     pub fn take_over(&mut self, other: &mut Hints<T>)
         ensures it { StayCovered other.old self.new }
         ensures same { StayCovered self.old self.new }
@@ -104,7 +104,7 @@ impl<T: Copy> Hints<T> {
         other.clear();
     }
 
-    /// None is worth a look.
+    /// Removes all entries.
     pub fn clear(&mut self)
         ensures { self.new ≡ record { whole = true; items = [] } }
     {
@@ -112,7 +112,7 @@ impl<T: Copy> Hints<T> {
         self.is_whole = true;
     }
 
-    /// All are worth a look.
+    /// Makes all worth a look.
     pub fn give_up(&mut self)
         ensures { self.new ≡ record { whole = false; items = [] } }
     {

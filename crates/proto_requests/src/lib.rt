@@ -1,13 +1,13 @@
 //! What the machines of requests, replies and surveys keep, part by part.
 //!
-//! `ports` has the pipes that are up, and which of them were found full in this turn. `backlog` has what is kept of the
-//! pipes, one of each. `waits` has the operations that wait, at `spots` that they leave behind when they end; `numbers`
+//! `ports` has the pipes that are up, and those of them that were found full in this turn. `backlog` has what is kept
+//! of the pipes, one of each. `waits` has the operations that wait, at `spots` that are empty once they end; `numbers`
 //! finds them. `hints` has what is worth a look, the oldest first: contexts, or operations whose requests have ended;
 //! where it had no room for one, all are looked at. `trail` has the words of a backtrace, and `specs/Ids` the ids of
 //! requests and surveys.
 //!
-//! Each part is seen by contracts as a list or a set, whatever it remembers to find things fast. To read: `specs/Waits`
-//! and `specs/Ports`, then the part's calls.
+//! Contracts see each part as a list or a set, without the indexes that it keeps. To read: `specs/Waits` and
+//! `specs/Ports`, then the part's calls.
 #![tactic(auto)]
 
 pub mod backlog;

@@ -1,4 +1,4 @@
-//! Numbers that are known by others.
+//! Numbers that other numbers give: a map.
 ghost use Rattle.std.specs.Prelude.{◌≡◌, ◌==◌, ℕ, [], Some, None, if◌then◌else◌, OnOk, OnErr};
 ghost use Rattle.proto_requests.specs.Numbers.{number_at, is_known};
 
@@ -7,7 +7,7 @@ use std::alloc::Global;
 use std::collections::HashMap;
 use std::marker::Model;
 
-/// Numbers, each known by another. What a call costs doesn't grow with them.
+/// Numbers, each given by another one. The cost of a call doesn't grow with how many there are.
 #[derive(Drop)]
 pub struct Numbers {
     known: HashMap<u32, u64>,
@@ -22,7 +22,7 @@ impl Model for Numbers {
 }
 
 impl Numbers {
-    /// None is known.
+    /// An empty map.
     pub fn new(alloc: Global) -> Numbers
         ensures { result ≡ [] }
     {
@@ -31,21 +31,21 @@ impl Numbers {
         }
     }
 
-    /// The number that is known by this one.
+    /// The number for `k`.
     pub fn get(&self, k: u32) -> Option<u64>
         ensures { result ≡ number_at self.now k }
     {
         self.known.get(&k).copied()
     }
 
-    /// A number is known by this one.
+    /// Returns whether there is a number for `k`.
     pub fn has(&self, k: u32) -> bool
         ensures { result ≡ is_known self.now k }
     {
         self.get(k).is_some()
     }
 
-    /// Takes the room for so many more.
+    /// Makes room for `more` more.
     pub fn reserve(&mut self, more: usize) -> Result<(), NoMemory>
         ensures { (q : ℕ) → number_at self.new q ≡ number_at self.old q }
     {
@@ -55,8 +55,8 @@ impl Numbers {
         }
     }
 
-    /// The number is known by this one. std's map promises that a remove takes none of the room that was reserved, but
-    /// not that it gives any back: so a put may find none, and then all is as before.
+    /// Adds the number for `k`. std's map promises that a remove takes none of the room that was reserved, but not that
+    /// it gives any back: so a put may find none, and then nothing changes.
     pub fn put(&mut self, k: u32, n: u64) -> Result<(), NoMemory>
         ensures known { OnOk result ((q : ℕ) → number_at self.new q ≡ (if k == q then Some n else number_at self.old q)) }
         ensures same { OnErr result (self.new ≡ self.old) }
@@ -67,14 +67,14 @@ impl Numbers {
         }
     }
 
-    /// None is known by this one.
+    /// Removes the number for `k`.
     pub fn remove(&mut self, k: u32)
         ensures { (q : ℕ) → number_at self.new q ≡ (if k == q then None else number_at self.old q) }
     {
         let _ = self.known.remove(&k);
     }
 
-    /// None is known.
+    /// Removes all.
     pub fn clear(&mut self)
         ensures { self.new ≡ [] }
     {

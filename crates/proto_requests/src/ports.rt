@@ -1,9 +1,9 @@
-//! The pipes that are up, and which of them were found full in this turn.
+//! The pipes that are up, and those of them that were found full in this turn.
 //!
 //! They are held in the order of their numbers, in a map: to look one up, to add one or to take one out costs the
-//! logarithm of how many they are. Each has the number of the turn in which it was last found full, so that a new turn
-//! writes nothing to them. Every stretch of full ones that was passed over is remembered, by the number from which it
-//! was looked at, until the turn ends or one more comes up: no search from there looks at them again.
+//! logarithm of their number. Each has the number of the turn in which it was last found full, so that a new turn
+//! writes nothing to them. Every stretch of full ones that was skipped is remembered, by the number from which it was
+//! looked at, until the turn ends or one more comes up: no search from there looks at them again.
 ghost use Rattle.std.specs.Prelude.{◌≡◌, ◌++◌, ◌∷◌, [], OnOk, OnErr, not, map, filter, find};
 ghost use Rattle.std.specs.List.{list_any, list_all};
 ghost use Rattle.std.specs.Option.{option_map};
@@ -24,11 +24,11 @@ const END: u64 = 4_294_967_296;
 /// The pipes that are up (nng_pipe(5)).
 #[derive(Drop)]
 pub struct Ports {
-    /// By its number, the turn in which each was last found full, or 0.
+    /// By a pipe's number: the turn in which it was last found full, or 0.
     held: BTreeMap<u32, u64>,
-    /// The number of this turn, from 1 on.
+    /// The number of this turn, from 1.
     turn: u64,
-    /// From a number on, up to which number all were found full in this turn.
+    /// By a number: up to which number all from there on were found full in this turn.
     passed: BTreeMap<u64, u64>,
 }
 
@@ -50,7 +50,7 @@ pub enum Destination {
     Nowhere,
     /// Its pipe was found full.
     Full,
-    /// To this pipe.
+    /// It goes to this pipe.
     To(PipeId),
 }
 
@@ -78,7 +78,7 @@ fn first_open(held: &BTreeMap<u32, u64>, turn: u64, start: u32) -> Option<u32>
     None
 }
 
-// Each number is below this one.
+// Returns whether each number is below this one.
 fn are_under(held: &BTreeMap<u32, u64>, p: PipeId) -> bool
     ensures { result ≡ list_all (is_under p) held.now.entries }
 {
@@ -88,7 +88,7 @@ fn are_under(held: &BTreeMap<u32, u64>, p: PipeId) -> bool
     }
 }
 
-// Found full in no turn.
+// Makes no pipe found full in any turn.
 fn restart(held: &mut BTreeMap<u32, u64>)
     ensures { held.new.entries ≡ map unmarked held.old.entries }
 {
@@ -118,7 +118,7 @@ fn reached(found: Option<u32>) -> u64
     }
 }
 
-// All from the one number up to the other were found full. With no memory it is not remembered.
+// Remembers that all from one number up to the other were found full. Without memory it is not remembered.
 fn remember(passed: &mut BTreeMap<u64, u64>, from: u64, to: u64)
     ensures { (turn : ℕ) (xs : List (ℕ × ℕ)) → AreFull turn from to xs → AllPassed turn passed.old.entries xs → AllPassed turn passed.new.entries xs }
 {
@@ -128,7 +128,7 @@ fn remember(passed: &mut BTreeMap<u64, u64>, from: u64, to: u64)
 }
 
 impl Ports {
-    /// No pipe.
+    /// No pipes.
     pub fn new(alloc: Global) -> Ports
         ensures { result ≡ record { items = [] } }
     {
@@ -139,7 +139,7 @@ impl Ports {
         }
     }
 
-    /// The pipe comes up. Its number is above all others; one that isn't is that of no new pipe.
+    /// Adds a pipe that comes up. Its number is above all others; otherwise it isn't the number of a new pipe.
     pub fn push(&mut self, p: PipeId) -> Result<(), NoMemory>
         ensures more { OnOk result (list_all (is_below p) self.old.items ≡ true → self.new.items ≡ self.old.items ++ record { pipe = p; is_full = false } ∷ []) }
         ensures same { OnErr result (self.new ≡ self.old) }
@@ -177,21 +177,21 @@ impl Ports {
         self.turn = 1;
     }
 
-    /// Knows the pipe no longer.
+    /// Removes the pipe.
     pub fn forget(&mut self, p: PipeId)
         ensures { self.new.items ≡ filter (λ (x : PortView). not (x.pipe == p)) self.old.items }
     {
         let _ = self.held.remove(&p.0);
     }
 
-    /// The pipe is up.
+    /// Returns whether the pipe is up.
     pub fn is_up(&self, p: PipeId) -> bool
         ensures { result ≡ list_any (is_pipe p) self.now.items }
     {
         self.held.contains_key(&p.0)
     }
 
-    /// Whether what goes to this pipe alone can go.
+    /// Returns whether what goes only to this pipe can go.
     pub fn way_to(&self, to: Option<PipeId>) -> Destination
         ensures { result ≡ where_is self.now.items to }
     {
@@ -210,7 +210,7 @@ impl Ports {
         }
     }
 
-    /// The next pipe behind this one that is not full, in the round of their numbers.
+    /// The next pipe after this one that is not full, in the round of their numbers.
     pub fn free_port(&mut self, last: PipeId) -> Option<PipeId>
         ensures same { self.new ≡ self.old }
         ensures port { result ≡ option_map (λ (x : PortView). x.pipe) (next_port last self.old.items) }
@@ -224,7 +224,7 @@ impl Ports {
         }
     }
 
-    // The first pipe behind this one that is not full.
+    // The first pipe after this one that is not full.
     fn free_behind(&mut self, last: PipeId) -> Option<u32>
         ensures same { self.new ≡ self.old }
         ensures port { result ≡ option_map (λ (x : PortView). x.pipe) (find (is_free_behind last) self.old.items) }

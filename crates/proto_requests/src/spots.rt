@@ -1,7 +1,8 @@
-//! Spots in a row, each with an element or none.
+//! Spots in a row, each with an element or empty.
 //!
-//! An element that is taken out leaves its spot behind, so that none of the others moves. Each spot has a number, which
-//! rises in the row: by it, a spot is found by halving, also where spots before it were closed up.
+//! An element that is taken out leaves its spot empty, so that none of the others moves. Each spot has a number; the
+//! numbers rise along the row. So a spot is found from its number by halving, even where empty spots before it were
+//! removed.
 ghost use Rattle.std.specs.Prelude.{◌≡◌, ◌≤◌, ◌<◌, ◌+◌, ℕ, Bool, Some, true, false, find, length, take, drop};
 ghost use Rattle.std.specs.Vec.{vec_len, vec_capacity};
 ghost use Rattle.std.specs.List.{list_any, position};
@@ -13,11 +14,11 @@ ghost use Rattle.proto_requests.specs.Spots.{holds, held, stays};
 pub struct Spot<T> {
     /// Its number.
     pub number: u64,
-    /// What stands there.
+    /// The element at the spot.
     pub value: Option<T>,
 }
 
-/// Where the spot of this number should be.
+/// The place where the spot of this number should be.
 pub fn hint<T>(list: &[Spot<T>], n: u64) -> usize {
     list.partition_point(|s| s.number < n)
 }
@@ -30,7 +31,7 @@ pub fn rest<T>(list: &[Spot<T>], from: usize) -> &[Spot<T>]
     &list[from..]
 }
 
-/// Takes the spots out where nothing stands.
+/// Removes the empty spots.
 pub fn close_up<T: Drop>(list: &mut Vec<Spot<T>>)
     ensures held { held list.new.items ≡ held list.old.items }
     ensures len { vec_len list.new ≡ length (held list.old.items) }
@@ -39,7 +40,7 @@ pub fn close_up<T: Drop>(list: &mut Vec<Spot<T>>)
     list.retain(|s| s.value.is_some());
 }
 
-/// Takes what stands there out.
+/// Takes out what is there.
 pub fn empty<T>(list: &mut [Spot<T>], i: usize) -> Option<T>
     requires { i < length list.old }
     ensures found { (P : T → Bool) → position (holds P) list.old ≡ Some i → result ≡ find P (held list.old) }
@@ -50,7 +51,7 @@ pub fn empty<T>(list: &mut [Spot<T>], i: usize) -> Option<T>
     list[i].value.take()
 }
 
-/// Has so many spots more, or takes those out where nothing stands. Whether the others moved.
+/// Removes the empty spots, unless there is room for `more` more. Returns whether the others moved.
 pub fn close_up_for<T: Drop>(list: &mut Vec<Spot<T>>, more: usize) -> bool
     ensures held { held list.new.items ≡ held list.old.items }
     ensures same { result ≡ false → (list.new.items ≡ list.old.items) × (vec_len list.new + more ≤ vec_capacity list.new) }
@@ -64,7 +65,7 @@ pub fn close_up_for<T: Drop>(list: &mut Vec<Spot<T>>, more: usize) -> bool
     true
 }
 
-/// Where nothing stands at half of the spots, takes those out. Whether the others moved.
+/// Where half of the spots are empty, removes those. Returns whether the others moved.
 pub fn close_up_sparse<T: Drop>(list: &mut Vec<Spot<T>>, standing: usize) -> bool
     ensures held { held list.new.items ≡ held list.old.items }
     ensures same { result ≡ false → list.new.items ≡ list.old.items }

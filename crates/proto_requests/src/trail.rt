@@ -10,14 +10,14 @@ use sp_msg::Message;
 use std::alloc::Global;
 use std::marker::Model;
 
-/// What stands at the head of a frame (nng_req(7), Raw Mode).
+/// The beginning of a frame (nng_req(7), Raw Mode).
 #[derive(Clone, Copy, PartialEq, Eq, Debug)]
 pub enum Trail {
     /// A whole backtrace.
     Whole,
-    /// One of more words than are read.
+    /// A backtrace with more words than are read.
     TooFar,
-    /// One that is cut off.
+    /// A backtrace that is cut off.
     Short,
 }
 
@@ -37,7 +37,7 @@ pub fn scan(b: &[u8], hops: u8) -> Trail
     scan(&b[4..], hops - 1)
 }
 
-/// The number of the first 4 bytes, if there are so many.
+/// The number in the first 4 bytes, if there are 4.
 pub fn first_word(b: &[u8]) -> Option<u32>
     ensures { result ≡ first_word b.now }
 {
@@ -70,7 +70,7 @@ fn pull(m: &mut Message, words: &mut Vec<u32>, hops: u8) -> Result<(), NoMemory>
     }
 }
 
-// Puts the words behind the header.
+// Puts the words after the header.
 fn put(m: &mut Message, words: &[u32])
     ensures { length m.old.header + 4 * length words.now ≤ 64 → m.new ≡ record m.old { header = m.old.header ++ bytes_of words.now } }
 {
@@ -101,7 +101,7 @@ impl Model for BacktraceWords {
 }
 
 impl BacktraceWords {
-    /// None.
+    /// No words.
     pub fn none(alloc: Global) -> BacktraceWords
         ensures { result ≡ [] }
     {
@@ -110,7 +110,7 @@ impl BacktraceWords {
         }
     }
 
-    /// Moves a whole backtrace out of the body. `Options::fits` rules more than 15 hops out.
+    /// Moves a whole backtrace out of the body. `Options::fits` excludes more than 15 hops.
     pub fn take(alloc: Global, m: &mut Message, hops: u8) -> Result<BacktraceWords, NoMemory>
         ensures { IfOk result (λ w. (ws rest : List ℕ) → back hops m.old.body ≡ Found ws rest → (w ≡ ws) × (m.new ≡ record m.old { body = rest })) }
     {
@@ -124,7 +124,7 @@ impl BacktraceWords {
         }
     }
 
-    /// Puts them behind the header.
+    /// Puts them after the header.
     pub fn lead(&self, m: &mut Message)
         ensures { length m.old.header ≤ 4 → m.new ≡ record m.old { header = m.old.header ++ self.now } }
     {

@@ -1,12 +1,12 @@
 //! Operations that wait.
 //!
-//! They stand in the order of their begins, each at a spot that it leaves behind when it ends, so that none of the
-//! others moves; once all spots are used, those that are left are closed up. By the slot of its name the number of its
-//! spot is known, and by that the spot is found by halving, where it is then looked at. The same is known by the
-//! context of a receive, and of a send whose request has not ended. Where the first send and the first receive stand
-//! is known, and those whose requests have ended stand in a queue. They are searched through only where two have one
-//! slot, or where two receives or two such sends are of one context, as those of a raw socket are, or once there was
-//! no memory for such a number or for a place in the queue.
+//! They are kept in the order of their begins, each at a spot that is empty when it ends, so that none of the others
+//! moves; once all spots are used, those that are left are moved together. The slot of an operation's name gives the
+//! number of its spot, and the spot is found from that by halving and then checked. So does the context of a receive,
+//! and of a send whose request has not ended. The places of the first send and of the first receive are known, and
+//! those whose requests have ended are in a queue. All are searched only where two have the same slot, or where two
+//! receives or two such sends are of the same context, as those of a raw socket are, or once there was no memory for
+//! such a number or for a place in the queue.
 ghost use Rattle.std.specs.Prelude.{◌≡◌, ◌≤◌, ◌<◌, ◌+◌, ◌==◌, ◌++◌, ◌∷◌, ◌&&◌, ℕ, Bool, [], Some, None, true, false, not, if◌then◌else◌, find, map, filter, take, length, option_to_list, OnOk, IfSome, IfNone};
 ghost use Rattle.std.specs.Vec.{vec_len, vec_capacity};
 ghost use Rattle.std.specs.Option.{option_map};
@@ -38,13 +38,13 @@ pub trait Waiter: Drop {
 
     ghost is_left: { Self → Bool };
 
-    // as it is when its request has ended
+    // the operation after its request has ended
     ghost left: { Self → Self };
 
-    // that changes neither its name nor its context, and makes no send of a receive
+    // that changes neither its name nor its context, and doesn't make a receive a send
     ghost left_same: { (x : Self) → (name_of (left x) ≡ name_of x) × (context_of (left x) ≡ context_of x) × (is_send (left x) ≡ is_send x) };
 
-    // nor anything where it has ended
+    // and changes nothing where the request has already ended
     ghost left_again: { (x : Self) → is_left x ≡ true → left x ≡ x };
 
     // requests may end
@@ -61,15 +61,15 @@ pub trait Waiter: Drop {
     fn ctx(&self) -> Ctx
         ensures { result ≡ context_of self.now };
 
-    /// It is a send.
+    /// Returns whether it is a send.
     fn sends(&self) -> bool
         ensures { result ≡ is_send self.now };
 
-    /// Its request has ended.
+    /// Returns whether its request has ended.
     fn is_over(&self) -> bool
         ensures { result ≡ is_left self.now };
 
-    /// Its request ends.
+    /// Ends its request.
     fn leave(&mut self)
         ensures { self.new ≡ left self.old };
 }
@@ -77,27 +77,27 @@ pub trait Waiter: Drop {
 /// Operations that wait (nng_aio(5)).
 #[derive(Drop)]
 pub struct Waits<T: Waiter> {
-    /// In the order of their begins.
+    /// The operations, in the order of their begins.
     list: Vec<Spot<T>>,
     /// The number of the next spot.
     next: u64,
-    /// Their numbers by their slots.
+    /// The numbers of the spots by their slots.
     by_slot: Numbers,
-    /// All slots are known, and no two have one.
+    /// Whether all slots are known, and no two have the same one.
     slots_known: bool,
     /// The numbers of the receives by their contexts.
     receives: Numbers,
-    /// All contexts of receives are known, and no two have one.
+    /// Whether all contexts of receives are known, and no two have the same one.
     receives_known: bool,
     /// The numbers of the sends whose requests have not ended by their contexts.
     opens: Numbers,
-    /// All contexts of those are known, and no two have one.
+    /// Whether all contexts of those are known, and no two have the same one.
     opens_known: bool,
-    /// No send stands before this spot.
+    /// No send is before this spot.
     send_from: usize,
-    /// No receive stands before this spot.
+    /// No receive is before this spot.
     receive_from: usize,
-    /// Those whose requests have ended are among these.
+    /// Operations, among them all whose requests have ended.
     ended: Hints<OpName>,
 }
 
@@ -116,7 +116,7 @@ impl<T: Waiter> Model for Waits<T> {
 
 // ---- Spots
 
-// It has this name.
+// Returns whether it has this name.
 fn is_named<T: Waiter>(x: &T, op: OpName) -> bool
     ensures { result ≡ is_named T.name_of op x.now }
 {
@@ -124,7 +124,7 @@ fn is_named<T: Waiter>(x: &T, op: OpName) -> bool
     name.slot == op.slot && name.generation == op.generation
 }
 
-// The operation stands there.
+// Returns whether the operation is at this spot.
 fn names<T: Waiter>(s: &Spot<T>, op: OpName) -> bool
     ensures { result ≡ holds (is_named T.name_of op) s.now }
 {
@@ -134,7 +134,7 @@ fn names<T: Waiter>(s: &Spot<T>, op: OpName) -> bool
     }
 }
 
-// A send stands there.
+// Returns whether a send is at this spot.
 fn sends<T: Waiter>(s: &Spot<T>) -> bool
     ensures { result ≡ holds T.is_send s.now }
 {
@@ -144,7 +144,7 @@ fn sends<T: Waiter>(s: &Spot<T>) -> bool
     }
 }
 
-// A receive stands there.
+// Returns whether a receive is at this spot.
 fn receives<T: Waiter>(s: &Spot<T>) -> bool
     ensures { result ≡ holds (isnt T.is_send) s.now }
 {
@@ -154,7 +154,7 @@ fn receives<T: Waiter>(s: &Spot<T>) -> bool
     }
 }
 
-// It is a send whose request has not ended, or a receive.
+// Returns whether it is a send whose request has not ended, or, where `send` is false, a receive.
 fn is_kind<T: Waiter>(x: &T, send: bool) -> bool
     ensures { result ≡ is_kind T.is_send T.is_left send x.now }
 {
@@ -164,7 +164,7 @@ fn is_kind<T: Waiter>(x: &T, send: bool) -> bool
     !x.sends()
 }
 
-// One of these on the context stands there.
+// Returns whether one of these on the context is at this spot.
 fn stands_on<T: Waiter>(s: &Spot<T>, send: bool, c: Ctx) -> bool
     ensures { result ≡ holds (is_kind_on T.is_send T.is_left T.context_of send c) s.now }
 {
@@ -174,7 +174,7 @@ fn stands_on<T: Waiter>(s: &Spot<T>, send: bool, c: Ctx) -> bool
     }
 }
 
-// One whose request has ended stands there.
+// Returns whether an operation whose request has ended is at this spot.
 fn is_over<T: Waiter>(s: &Spot<T>) -> bool
     ensures { result ≡ holds T.is_left s.now }
 {
@@ -184,14 +184,14 @@ fn is_over<T: Waiter>(s: &Spot<T>) -> bool
     }
 }
 
-// Where the operation stands.
+// The place of the operation.
 fn search<T: Waiter>(list: &[Spot<T>], op: OpName) -> Option<usize>
     ensures { result ≡ position (holds (is_named T.name_of op)) list.now }
 {
     list.iter().position(|s| names(s, op))
 }
 
-// The same, where no two have one slot. It is looked for here first.
+// The same, where no two have the same slot. This place is tried first.
 fn place_of<T: Waiter>(list: &[Spot<T>], i: usize, op: OpName) -> Option<usize>
     ensures { AreDistinct (map (slot_of T.name_of) (held list.now)) → result ≡ position (holds (is_named T.name_of op)) list.now }
 {
@@ -203,7 +203,7 @@ fn place_of<T: Waiter>(list: &[Spot<T>], i: usize, op: OpName) -> Option<usize>
     search(list, op)
 }
 
-/// Where the operation stands, whose number may be known.
+/// The place of the operation, whose number may be known.
 pub fn place_by<T: Waiter>(
     list: &[Spot<T>],
     by_slot: &Numbers,
@@ -221,14 +221,14 @@ pub fn place_by<T: Waiter>(
     }
 }
 
-// Where the first send stands.
+// The place of the first send.
 fn send_in<T: Waiter>(list: &[Spot<T>]) -> Option<usize>
     ensures { result ≡ position (holds T.is_send) list.now }
 {
     list.iter().position(|s| sends(s))
 }
 
-// The same, if none stands before this spot.
+// The same, if none is before this spot.
 fn send_from<T: Waiter>(list: &[Spot<T>], from: usize) -> Option<usize>
     requires { from ≤ length list.now }
     ensures { list_any (holds T.is_send) (take from list.now) ≡ false → result ≡ position (holds T.is_send) list.now }
@@ -239,14 +239,14 @@ fn send_from<T: Waiter>(list: &[Spot<T>], from: usize) -> Option<usize>
     }
 }
 
-// Where the first receive stands.
+// The place of the first receive.
 fn receive_in<T: Waiter>(list: &[Spot<T>]) -> Option<usize>
     ensures { result ≡ position (holds (isnt T.is_send)) list.now }
 {
     list.iter().position(|s| receives(s))
 }
 
-// The same, if none stands before this spot.
+// The same, if none is before this spot.
 fn receive_from<T: Waiter>(list: &[Spot<T>], from: usize) -> Option<usize>
     requires { from ≤ length list.now }
     ensures { list_any (holds (isnt T.is_send)) (take from list.now) ≡ false → result ≡ position (holds (isnt T.is_send)) list.now }
@@ -257,7 +257,7 @@ fn receive_from<T: Waiter>(list: &[Spot<T>], from: usize) -> Option<usize>
     }
 }
 
-// The spot of the first send, or the end, if none stands before this spot.
+// The spot of the first send, or the end, if none is before this spot.
 fn send_mark<T: Waiter>(list: &[Spot<T>], from: usize) -> usize
     ensures { IsMark T.is_send from list.now → IsMark T.is_send result list.now }
 {
@@ -267,7 +267,7 @@ fn send_mark<T: Waiter>(list: &[Spot<T>], from: usize) -> usize
     reached(send_from(list, from), list.len())
 }
 
-// The spot of the first receive, or the end, if none stands before this spot.
+// The spot of the first receive, or the end, if none is before this spot.
 fn receive_mark<T: Waiter>(list: &[Spot<T>], from: usize) -> usize
     ensures { IsMark (isnt T.is_send) from list.now → IsMark (isnt T.is_send) result list.now }
 {
@@ -277,14 +277,14 @@ fn receive_mark<T: Waiter>(list: &[Spot<T>], from: usize) -> usize
     reached(receive_from(list, from), list.len())
 }
 
-// Where the first stands whose request has ended.
+// The place of the first operation whose request has ended.
 fn over_in<T: Waiter>(list: &[Spot<T>]) -> Option<usize>
     ensures { result ≡ position (holds T.is_left) list.now }
 {
     list.iter().position(|s| is_over(s))
 }
 
-/// The name of the one that stands there.
+/// The name of the operation at this place.
 pub fn name_at<T: Waiter>(list: &[Spot<T>], place: Option<usize>) -> Option<OpName>
     ensures { (P : T → Bool) → place ≡ position (holds P) list.now → result ≡ option_map T.name_of (find P (held list.now)) }
 {
@@ -312,14 +312,14 @@ fn reached(place: Option<usize>, end: usize) -> usize
     }
 }
 
-// Where the first of these on the context stands: sends whose requests have not ended, or receives.
+// The place of the first of these on the context: sends whose requests have not ended, or receives.
 fn search_on<T: Waiter>(list: &[Spot<T>], send: bool, c: Ctx) -> Option<usize>
     ensures { result ≡ position (holds (is_kind_on T.is_send T.is_left T.context_of send c)) list.now }
 {
     list.iter().position(|s| stands_on(s, send, c))
 }
 
-// The same, where no other is on the context. It is looked for here first.
+// The same, where no other is on the context. This place is tried first.
 fn place_at<T: Waiter>(list: &[Spot<T>], i: usize, send: bool, c: Ctx) -> Option<usize>
     ensures { AreDistinct (map T.context_of (filter (is_kind T.is_send T.is_left send) (held list.now))) → result ≡ position (holds (is_kind_on T.is_send T.is_left T.context_of send c)) list.now }
 {
@@ -350,21 +350,21 @@ fn place_on<T: Waiter>(
     }
 }
 
-// A receive on the context is among them.
+// Returns whether a receive on the context is among them.
 fn any_receive<T: Waiter>(list: &[Spot<T>], c: Ctx) -> bool
     ensures { result ≡ list_any (holds (receives_on T.is_send T.context_of c)) list.now }
 {
     list.iter().any(|s| stands_on(s, false, c))
 }
 
-// It is a send whose request has not ended.
+// Returns whether it is a send whose request has not ended.
 fn is_open<T: Waiter>(x: &T) -> bool
     ensures { result ≡ is_open T.is_send T.is_left x.now }
 {
     x.sends() && !x.is_over()
 }
 
-// The request of the one that stands there ends, if it is of the context.
+// Ends the request of the operation at this spot, if it is of the context.
 fn leave_spot<T: Waiter>(s: &mut Spot<T>, c: Ctx)
     ensures { s.new ≡ left_spot T.context_of T.left c s.old }
 {
@@ -378,7 +378,7 @@ fn leave_spot<T: Waiter>(s: &mut Spot<T>, c: Ctx)
     }
 }
 
-// The request of the context ends.
+// Ends the request of the context.
 fn leave_in<T: Waiter>(list: &mut [Spot<T>], c: Ctx)
     ensures { list.new ≡ map (left_spot T.context_of T.left c) list.old }
 {
@@ -387,7 +387,7 @@ fn leave_in<T: Waiter>(list: &mut [Spot<T>], c: Ctx)
     }
 }
 
-// The one that stands here is looked at.
+// Makes the operation at this place looked at.
 fn note_at<T: Waiter>(list: &[Spot<T>], place: Option<usize>, ended: &mut Hints<OpName>)
     ensures it { (P : T → Bool) (x : T) → place ≡ position (holds P) list.now → find P (held list.now) ≡ Some x → covers_by ended.new (same_op (T.name_of x)) ≡ true }
     ensures more { StayCovered ended.old ended.new }
@@ -398,7 +398,7 @@ fn note_at<T: Waiter>(list: &[Spot<T>], place: Option<usize>, ended: &mut Hints<
     }
 }
 
-// The request of the one that stands here ends, if it is of the context.
+// Ends the request of the operation at this place, if it is of the context.
 fn leave_at<T: Waiter>(list: &mut [Spot<T>], place: Option<usize>, c: Ctx)
     ensures { (P : T → Bool) → place ≡ position (holds P) list.old → list.new ≡ with_found (holds P) (left_spot T.context_of T.left c) list.old }
 {
@@ -412,8 +412,8 @@ fn leave_at<T: Waiter>(list: &mut [Spot<T>], place: Option<usize>, c: Ctx)
     }
 }
 
-// The request of the context ends, and what waits for it is looked at: a send, and then a receive, which are found by
-// their numbers, if these are known.
+// Ends the request of the context, and makes what waits for it looked at: a send, and then a receive, which are found
+// by their numbers, if these are known.
 fn leave<T: Waiter>(
     list: &mut [Spot<T>],
     receives: &Numbers,
@@ -438,7 +438,7 @@ fn leave<T: Waiter>(
     leave_at(list, send, c);
 }
 
-// The name of the one that stands there, if its request has ended.
+// The name of the operation at this place, if its request has ended.
 fn over_at<T: Waiter>(list: &[Spot<T>], place: Option<usize>) -> Option<OpName>
     ensures { (P : T → Bool) → place ≡ position (holds P) list.now → result ≡ over_name T.name_of T.is_left (find P (held list.now)) }
 {
@@ -456,7 +456,7 @@ fn over_at<T: Waiter>(list: &[Spot<T>], place: Option<usize>) -> Option<OpName>
     }
 }
 
-// One whose request has ended, of those that are looked at. Those before it are looked at no more.
+// An operation whose request has ended, of those that are looked at. Those before it are no longer looked at.
 fn next_over<T: Waiter>(
     ended: &mut Hints<OpName>,
     list: &[Spot<T>],
@@ -476,7 +476,7 @@ fn next_over<T: Waiter>(
     None
 }
 
-/// Has a spot for one more, for which there is room, and says whether the others moved.
+/// Makes a spot for one more, for which there is room, and returns whether the others moved.
 pub fn make_spot<T: Waiter>(list: &mut Vec<Spot<T>>) -> bool
     requires { length (held list.old.items) < vec_capacity list.old }
     ensures held { held list.new.items ≡ held list.old.items }
@@ -493,7 +493,8 @@ pub fn make_spot<T: Waiter>(list: &mut Vec<Spot<T>>) -> bool
 
 // ---- Numbers
 
-/// Whether all numbers are known, if they were, with this one more. Not where one is known by the same.
+/// Returns whether all numbers are known, if they were, including this one. False where one is already known for the
+/// same key.
 pub fn know(all: bool, numbers: &mut Numbers, k: u32, n: u64) -> bool
     ensures all { result ≡ true → all ≡ true }
     ensures more { result ≡ true → (is_known numbers.old k ≡ false) × ((q : ℕ) → is_known numbers.new q ≡ (if k == q then true else is_known numbers.old q)) }
@@ -522,7 +523,7 @@ fn know_if(all: bool, numbers: &mut Numbers, is_one: bool, c: Ctx, n: u64) -> bo
     know(all, numbers, c.0, n)
 }
 
-// The operation is looked at, if its request has ended.
+// Makes the operation looked at, if its request has ended.
 fn note_if(ended: &mut Hints<OpName>, is_over: bool, op: OpName)
     ensures it { is_over ≡ true → covers_by ended.new (same_op op) ≡ true }
     ensures more { StayCovered ended.old ended.new }
@@ -532,14 +533,14 @@ fn note_if(ended: &mut Hints<OpName>, is_over: bool, op: OpName)
     }
 }
 
-// Both are known.
+// Returns whether both are known.
 fn both(receives: bool, opens: bool) -> bool
     ensures { result ≡ (receives && opens) }
 {
     receives && opens
 }
 
-/// None is known by this one.
+/// Removes the number for `k`.
 pub fn lose(numbers: &mut Numbers, k: u32)
     ensures { (q : ℕ) → is_known numbers.new q ≡ (if k == q then false else is_known numbers.old q) }
 {
@@ -555,7 +556,7 @@ fn lose_if(numbers: &mut Numbers, is_one: bool, c: Ctx)
     }
 }
 
-// Takes the room for the numbers of so many.
+// Makes room for the numbers of `more` more operations.
 fn make_room(
     by_slot: &mut Numbers,
     receives: &mut Numbers,
@@ -575,7 +576,7 @@ fn make_room(
 }
 
 impl<T: Waiter> Waits<T> {
-    /// None waits, and none has room.
+    /// No operations, and no room for any.
     pub fn new(alloc: Global) -> Waits<T>
         ensures { result.items ≡ [] }
     {
@@ -594,7 +595,7 @@ impl<T: Waiter> Waits<T> {
         }
     }
 
-    /// All from a spot on before which no receive stands.
+    /// All spots from one on before which there is no receive.
     pub fn receives(&self) -> &[Spot<T>]
         ensures { (P : T → Bool) → ((x : T) → P x ≡ true → isnt T.is_send x ≡ true) → find P (held result.now) ≡ find P self.now.items }
     {
@@ -625,7 +626,7 @@ impl<T: Waiter> Waits<T> {
         )
     }
 
-    /// One whose request has ended.
+    /// An operation whose request has ended.
     pub fn first_left(&mut self) -> Option<OpName>
         ensures same { self.new ≡ self.old }
         ensures over { IfSome result (λ op. IsOver T.name_of T.is_left self.old.items op) }
@@ -640,7 +641,7 @@ impl<T: Waiter> Waits<T> {
         next_over(&mut self.ended, &self.list, &self.by_slot)
     }
 
-    // The same. They are searched through.
+    // The same, found by a search of all.
     fn search_left(&mut self) -> Option<OpName>
         ensures same { self.new ≡ self.old }
         ensures over { IfSome result (λ op. IsOver T.name_of T.is_left self.old.items op) }
@@ -655,7 +656,7 @@ impl<T: Waiter> Waits<T> {
         }
     }
 
-    /// A receive of the context waits.
+    /// Returns whether a receive of the context waits.
     pub fn is_receiving(&self, c: Ctx) -> bool
         ensures { result ≡ list_any (receives_on T.is_send T.context_of c) self.now.items }
     {
@@ -665,14 +666,14 @@ impl<T: Waiter> Waits<T> {
         any_receive(&self.list, c)
     }
 
-    /// At least as many spots as operations wait.
+    /// The number of spots, at least that of the operations that wait.
     pub fn spots(&self) -> usize
         ensures { length self.now.items ≤ result }
     {
         self.list.len()
     }
 
-    /// Takes the room for so many.
+    /// Makes room for `more` more operations.
     pub fn reserve(&mut self, more: u32) -> Result<(), NoMemory>
         ensures same { self.new.items ≡ self.old.items }
         ensures room { OnOk result (more ≤ self.new.room) }
@@ -694,7 +695,7 @@ impl<T: Waiter> Waits<T> {
         }
     }
 
-    /// One more waits, the last of all.
+    /// Adds an operation, as the last one.
     pub fn push(&mut self, x: T)
         requires { 0 < self.old.room }
         ensures items { self.new.items ≡ self.old.items ++ x ∷ [] }
@@ -746,7 +747,7 @@ impl<T: Waiter> Waits<T> {
         }
     }
 
-    /// The request of the context ends.
+    /// Ends the request of the context.
     pub fn leave_on(&mut self, c: Ctx)
         requires { T.may_leave ≡ true }
         ensures items { self.new.items ≡ map (left_on T.context_of T.left c) self.old.items }

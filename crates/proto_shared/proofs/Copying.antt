@@ -1,4 +1,4 @@
--- What each entry makes of the copies.
+-- What each entry does to the copies.
 use Rattle.std.proofs.Common.{◌≡◌, refl, sym, subst, List, [], ◌∷◌, ◌++◌, ℕ, ◌≤◌, Bool, true, false, cond, arith, length}
 use Rattle.std.specs.Prelude.{not, ◌==◌, ◌&&◌, ◌||◌, filter}
 use Rattle.sp_base.specs.declared.role.Role.{Role}
@@ -68,7 +68,7 @@ pub went_down : (z : Setting) (before : List Entry) (p : ℕ) (why : Why) (n : �
 went_down z before p why n f h =
     λ u. let k : unclaimed z before ≡ false = rw f at u in omega (arith, h k, no_longer (up before) p)
 
--- what isn't part of a send comes where no Out waits
+-- an entry that isn't part of a send comes only where no Out waits
 none_waits : (z : Setting) (before : List Entry) (e : Entry) → goes_on z before e ≡ true → is_part_of_send z e ≡ false → unclaimed z before ≡ false
 none_waits z (Unkept p ∷ before) e g k = refl
 none_waits z before e g k = go (unclaimed z before) (is_part_of_send z e) k g
@@ -82,7 +82,7 @@ pub others : (t : Moment) (e : Entry) (n : ℕ) → Lawful (also t e) → is_par
 others t e n l k same h =
     λ u. subst (λ (us : List ℕ). length us ≤ n) (sym same) (h (none_waits t.z (past t) e l.turn.0.goes_on k))
 
--- one copy more
+-- one more copy
 pub each_more : (Holds : MessageView → Type 0) (xs : List MessageView) (x : MessageView) → Each Holds xs → Holds x → Each Holds (xs ++ x ∷ [])
 each_more Holds [] x h e = (e, tt)
 each_more Holds (y ∷ xs) x h e = (h.0, each_more Holds xs x h.1 e)

@@ -1,4 +1,4 @@
--- What the first receive and the first send are to the history.
+-- What the first receive and the first send are in the history.
 use Rattle.std.proofs.Common.{◌≡◌, refl, ap, sym, ◌∙◌, subst, List, [], ◌∷◌, ℕ, ◌+◌, ◌≤◌, Bool, true, false, cond, arith, Some, None}
 use Rattle.std.specs.Prelude.{find, filter, not, ◌&&◌, ◌||◌, ◌==◌}
 use Rattle.std.specs.List.{list_all, list_any}

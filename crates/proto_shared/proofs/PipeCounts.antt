@@ -1,4 +1,4 @@
--- How many pipes are up: none stands twice among them.
+-- The number of pipes that are up: none is among them twice.
 use Rattle.std.proofs.Common.{◌≡◌, refl, ap, sym, ◌∙◌, subst, List, [], ◌∷◌, ◌++◌, ℕ, ◌+◌, ◌-◌, ◌≤◌, ◌^◌, Bool, true, false, cond, arith, length}
 use Rattle.std.specs.Prelude.{not, ◌||◌, ◌==◌, min}
 use Rattle.std.proofs.lemmas.Bool.Decides.{nat_tests}
@@ -15,7 +15,7 @@ use Rattle.sp_history.specs.Legal.{Allowed, Follows, LegalFrom}
 use Rattle.sp_history.specs.Moments.{Moment, Lawful, AllowedBack, past, also}
 use Rattle.proto_shared.proofs.Copying.{lawful_before, no_longer}
 
--- ---- Lists without a number twice
+-- ---- Lists in which no number is twice
 
 equal_of : (m n : ℕ) → (m == n) ≡ true → m ≡ n
 equal_of m n h = grind (arith, nat_tests)
@@ -79,7 +79,7 @@ one_more : (us : List ℕ) (p : ℕ) → length (us ++ p ∷ []) ≡ length us +
 one_more [] p = refl
 one_more (u ∷ us) p = omega (arith, one_more us p)
 
--- one that stood there is there no longer
+-- a number that was there is no longer there
 pub one_fewer : (us : List ℕ) (p : ℕ) → AreDistinct us → has us p ≡ true → length (without us p) + 1 ≡ length us
 one_fewer [] p h e = absurd cc
 one_fewer (u ∷ us) p h e = go (u == p) refl e (one_fewer us p h.1)
@@ -120,14 +120,14 @@ ups_apart t l = (counted_back t.z t.caller t.before t.turn (subst Counted (sym l
 
 -- ---- A machine's count of the pipes that are up
 
--- a pipe's number is at least that of how many came up
+-- a pipe's number is at least the number of pipes that came up
 up_most : (before : List Entry) → length (up before) ≤ ups before
 up_most [] = omega arith
 up_most (Up p place name ∷ before) = omega (arith, up_most before, one_more (up before) p)
 up_most (Down p why ∷ before) = omega (arith, up_most before, no_longer (up before) p)
 up_most (_ ∷ before) = up_most before
 
--- a pipe comes up; that many never do that the count is full
+-- a pipe comes up; the count never overflows
 pub counted_up : (t : Moment) (p place : ℕ) (name : WireNumbers) (n : ℕ) → Lawful (also t (Up p place name)) → n ≡ length (up (past t)) → min (n + 1) (2 ^ 64 - 1) ≡ length (up (past t) ++ p ∷ [])
 counted_up t p place name n l h =
     let next = l.turn.0.itself.0 in

@@ -1,4 +1,4 @@
--- Where in a list the first stands that passes a test.
+-- The place of the first element of a list that passes a test.
 use Rattle.std.proofs.Common.{◌≡◌, refl, ◌∙◌, List, [], ◌∷◌, ℕ, zero, suc, Bool, true, false, cond, arith, Some, None, length, slice_index_or, ◌<◌, ◌≤◌}
 use Rattle.std.specs.Prelude.{find, nat_lt}
 use Rattle.std.specs.List.{position, position_or_len, slice_get}
@@ -13,7 +13,7 @@ first_is p (x ∷ xs) (suc i) d h t b =
     let no : p x ≡ false = b 0 (omega arith) in
     rw no (first_is p xs i d (omega (arith, h)) t (λ k l. b (suc k) (omega (arith, l))))
 
--- the place of the first is where it stands
+-- the place of the first is where it is
 pub found_at : {A : Type 0} (p : A → Bool) (xs : List A) (i : ℕ) (d : A) → position p xs ≡ Some i → find p xs ≡ Some (slice_index_or xs i d)
 found_at p xs i d h = let at = position-Some p xs i d h in first_is p xs i d at.0 at.1 at.2
 

@@ -62,7 +62,7 @@ is_a_receive (Send m) h = absurd cc
 pub won_send : (t : Moment) (op : OpName) (s : Begun) → Lawful (also t (End op (Won Sent))) → pending (past t) op ≡ Some s → is_recv s.act ≡ false
 won_send t op s l p = not-true (is_recv s.act) (subst (λ (o : Option Begun). MatchOption o ⊥ (MayEndAs t.z (past t) (Won Sent))) p l.turn.0.itself).0
 
--- ---- Which it is
+-- ---- Its identity
 
 -- the send of this name is the only one that is pending, and its copies are there
 pub the_flood : (n : ℕ) (AreOf : Begun → Type 0) (t : Moment) (op : OpName) (s : Begun) → Lawful t → HasFlood t n AreOf → pending (past t) op ≡ Some s → is_recv s.act ≡ false → (sending (pend (past t)) ≡ s ∷ []) × HasCopies t.z (past t) n × AreOf s
@@ -117,7 +117,7 @@ has_filter f (u ∷ us) p h = go (u == p) refl (f u) refl h (has_filter f us p)
 pub goes_to : (t : Moment) (s : Begun) (m : RecordedMessage) (p : ℕ) → s.act ≡ Send m → has (up (past t)) p ≡ true → has (targets t.z (past t) s) p ≡ may_go t.z.role t.z.raw (route t.z (past t) s.op) m.header p
 goes_to t s m p is h = ap (λ (a : RecordedAct). has (targets_of t.z (past t) s.op a) p) is ∙ has_filter (may_go t.z.role t.z.raw (route t.z (past t) s.op) m.header) (up (past t)) p h
 
--- it goes out on one pipe more
+-- it goes out on one more pipe
 pub goes_out : (n m : ℕ) (AreOf BeOf : Begun → Type 0) (t : Moment) (op : OpName) (s : Begun) (b : List ℕ) (p : ℕ) → Lawful t → HasFlood t n AreOf → CanFlood t op s b → BeOf s → HasFlood (also t (Out p b)) m BeOf
 goes_out n m AreOf BeOf t op s b p l h c is =
     λ again. subst (λ (ss : List Begun). IsOnlyFlood t.z (Out p b ∷ past t) m BeOf ss) (sym (the_flood n AreOf t op s l h c.pending c.is_send).0) (went_out t.z (past t) p b m c.floods_all, is, refl)
@@ -134,7 +134,7 @@ send_ends n m AreOf BeOf t op s ending h p is = λ l. no_flood m BeOf (also t (E
     none_left : Lawful t → sending (without_begun (pend (past t)) op) ≡ []
     none_left l = without_passing is_send (pend (past t)) op ∙ ap (λ (xs : List Begun). without_begun xs op) (the_flood n AreOf t op s l h p is).0 ∙ gone (is_of op s) (passes (is_of op) (pend (past t)) s p)
 
--- the send that is pending has another name than a receive
+-- the send that is pending has a different name from a receive
 other_name : (ss : List Begun) (op : OpName) (s r : Begun) → AreApart ss → find (is_of op) ss ≡ Some s → is_recv s.act ≡ true → head_of (sending ss) ≡ Some r → same_op op r.op ≡ false
 other_name ss op s r apart p is e = go (same_op op r.op) refl
   where
@@ -145,7 +145,7 @@ other_name ss op s r apart p is e = go (same_op op r.op) refl
         let receive : is_recv r.act ≡ true = ap (λ (x : Begun). is_recv x.act) (same_Some r s (sym here ∙ p)) ∙ is in
         let bad : true ≡ false = sym receive ∙ not-true (is_recv r.act) (passes_first is_send ss r e) in absurd cc
 
--- a receive that ends is nothing to a send
+-- a receive that ends doesn't concern a send
 pub receive_ends : {AreOf BeOf : Begun → Type 0} (n : ℕ) (t : Moment) (op : OpName) (s : Begun) (ending : Ending) → AreApart (pend (past t)) → pending (past t) op ≡ Some s → is_recv s.act ≡ true → is_part_of_send t.z (End op ending) ≡ false → ((r : Begun) → same_op op r.op ≡ false → AreOf r → BeOf r) → HasFlood t n AreOf
     → HasFlood (also t (End op ending)) n BeOf
 receive_ends n t op s ending apart p is part k h = goes_on n t (End op ending) part refl (other_stay is_send (pend (past t)) op s apart p (not_from_true (is_recv s.act) is)) (λ r e. k r (other_name (pend (past t)) op s r apart p is e)) h

@@ -77,7 +77,7 @@ module _ (f : Begun → Bool) where
           most true = omega (arith, h)
           most false = h
 
-  -- the first of a name is still the first of it, where it passes
+  -- the first one with a name is still the first one with it, where it passes
   pub find_passing : (ss : List Begun) (op : OpName) (s : Begun) → find (is_of op) ss ≡ Some s → f s ≡ true → find (is_of op) (filter f ss) ≡ Some s
   find_passing [] op s h k = absurd cc
   find_passing (x ∷ ss) op s h k = go (is_of op x) refl h (find_passing ss op s)
@@ -107,7 +107,7 @@ module _ (f : Begun → Bool) where
       go false e true g h = h
       go false e false g h = rw e h
 
-  -- one that doesn't pass is no loss to those that do
+  -- one that doesn't pass is not missing from those that do
   pub other_stay : (ss : List Begun) (op : OpName) (s : Begun) → AreApart ss → find (is_of op) ss ≡ Some s → f s ≡ false → filter f (without_begun ss op) ≡ filter f ss
   other_stay ss op s apart h k = without_passing ss op ∙ absent (filter f ss) op (none ss (apart op) h)
     where

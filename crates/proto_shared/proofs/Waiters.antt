@@ -80,7 +80,7 @@ find_waiting op (w ∷ ws) s h = go (is_for op w) h (find_waiting op ws s)
     go true h again = (w, refl, some_inj h)
     go false h again = again h
 
--- where no name stands twice, the first is the only one
+-- where no name occurs twice, the first is the only one
 without_all : (op : OpName) (ws : List Waiting) → occurs (map begun_of ws) op ≤ 1 → map begun_of (without_first op ws) ≡ without_begun (map begun_of ws) op
 without_all op [] h = refl
 without_all op (w ∷ ws) h = go (is_for op w) h (without_all op ws)
@@ -90,7 +90,7 @@ without_all op (w ∷ ws) h = go (is_for op w) h (without_all op ws)
     go true h again = sym (absent (map begun_of ws) op (omega (arith, h)))
     go false h again = ap (λ (rest : List Begun). begun_of w ∷ rest) (again h)
 
--- those of one kind, of which one ends
+-- the operations of one kind, one of which ends
 module _ (f : Begun → Bool) (ws : List Waiting) (ss : List Begun) (op : OpName) (s : Begun) (h : map begun_of ws ≡ filter f ss) (k : find (is_of op) ss ≡ Some s) (passes : f s ≡ true) where
   pub found : (w : Waiting) × (find (is_for op) ws ≡ Some w) × (begun_of w ≡ s)
   found = find_waiting op ws s (ap (find (is_of op)) h ∙ find_passing f ss op s k passes)

@@ -1,4 +1,4 @@
--- Which operations are pending.
+-- The operations that are pending.
 use Rattle.std.specs.Prelude.{◌≡◌, ◌≤◌, ◌+◌, ◌-◌, ℕ, min, Bool, not, if◌then◌else◌, List, [], ◌∷◌, map, filter, Option, Some, None}
 use Rattle.std.specs.Option.{option_map}
 use Rattle.std.specs.VecDeque.{deque_len, deque_capacity}
@@ -35,11 +35,11 @@ is_send s = not (is_recv s.act)
 abbrev pub count : Pending → ℕ
 count m = deque_len m.receives + deque_len m.sends
 
--- how many can be
+-- how many operations can be pending
 abbrev pub places : Pending → ℕ
 places m = min (deque_capacity m.receives) (deque_capacity m.sends)
 
--- how many more can begin
+-- how many more operations can begin
 abbrev pub room : Pending → ℕ
 room m = places m - count m
 
@@ -50,7 +50,7 @@ pub record Holds (m : Pending) (ss : List Begun) : Type 0 where
   pub apart : AreApart ss
   pub fits : count m ≤ places m
 
--- of these operations this one is pending no longer
+-- this one of these operations is no longer pending
 abbrev pub Ends : Pending → Pending → List Begun → OpName → Type 0
 Ends old new ss op = Holds new (without_begun ss op) × Served (count old) (count new) (room old) (room new)
 

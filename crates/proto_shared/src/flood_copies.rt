@@ -2,15 +2,15 @@
 //! no other send is pending then.
 //!
 //! A send that goes to many pipes has a copy for each pipe that is up when it begins, so that going out takes no
-//! memory. While it goes out they become fewer, and the Out that waits for its End excuses that; an entry that ends the
-//! excuse can't come there.
+//! memory. While it goes out there are fewer of them, which is allowed while an Out waits for its End; no other entry
+//! can come there.
 //!
 //! Who owns what: the machine owns the copies and the pending send; here are a function that makes them (`copies_of`,
-//! for pub and bus; those of a surveyor keep their header) and laws on how many there are (`copies`). What a copy
-//! holds, each machine says.
+//! for pub and bus; those of a surveyor keep their header) and laws on how many there are (`copies`). The contents of a
+//! copy are stated by each machine.
 //!
-//! To read: `specs/Copies` first (`HasCopies`, `HasFlood`); then `proofs/Flooding`, which leads `HasFlood` from entry
-//! to entry and to the next turn, and what stands under it: `Sending`, `Copying`, `Counting`.
+//! To read: `specs/Copies` first (`HasCopies`, `HasFlood`); then `proofs/Flooding`, which carries `HasFlood` from entry
+//! to entry and to the next turn, and what it uses: `Sending`, `Copying`, `Counting`.
 ghost use Rattle.std.specs.Prelude.{◌≡◌, ◌≤◌, ℕ, Option, List, ◌∷◌, true, false, length, IfOk, IsOk};
 ghost use Rattle.sp_base.specs.declared.OpName.{OpName};
 ghost use Rattle.sp_history.specs.declared.entry.RecordedAct.{RecordedAct};
@@ -28,8 +28,8 @@ use sp_base::NoMemory;
 use sp_msg::Message;
 use std::alloc::Global;
 
-/// So many copies of the message, without its header. Where that is none it takes no memory, however long the message
-/// is.
+/// As many copies of the message as `most` says, without its header. Where that is 0 it takes no memory, however long
+/// the message is.
 pub fn copies_of(alloc: Global, m: &Message, most: usize) -> Result<Vec<Message>, NoMemory>
     ensures copies { IfOk result (λ v. AreCopies m.now.body v.items) }
     ensures all { IfOk result (λ v. length v.items ≡ most) }
@@ -44,7 +44,7 @@ pub fn copies_of(alloc: Global, m: &Message, most: usize) -> Result<Vec<Message>
     Ok(copies)
 }
 
-/// So many copies are as many as pipes are up, or an Out waits: what each entry makes of that.
+/// There are as many copies as pipes are up, or an Out waits: what each entry does to that.
 pub fn copies()
     ensures begun { (z : Setting) (before : List Entry) (op : OpName) (k c : ℕ) (act : RecordedAct) (deadline : Option ℕ) → HasCopies z (Begin op k c act deadline ∷ before) (length (up before)) }
     ensures went_out { (z : Setting) (before : List Entry) (p : ℕ) (b : List ℕ) (n : ℕ) → floods z.role ≡ true → HasCopies z (Out p b ∷ before) n }

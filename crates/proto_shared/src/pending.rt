@@ -1,15 +1,15 @@
 //! The operations that a machine has pending: its receives and its sends, each in the order of their begins.
 //!
-//! A machine that serves receives in their order and sends in theirs asks for the first of each, and ends one, which is
-//! found at once where it is the first. One that ends elsewhere is found by a search. The places are taken beforehand,
-//! by `reserve`, so that a begin takes no memory.
+//! A machine that serves receives in order and sends in order asks for the first of each, and ends one, which is found
+//! at once where it is the first. One that ends elsewhere is found by a search. The memory for the places is taken
+//! before, by `reserve`, so that a begin takes no memory.
 //!
-//! Who owns what: the machine owns its `Pending`, and this owns the message of each send, as it was begun, until the
-//! send ends; then it is handed out. Names of operations are the core's, and nothing here decides who ended one.
+//! Who owns what: the machine owns its `Pending`, which owns the message of each send, as it was begun, until the send
+//! ends; then it is returned. Names of operations are the core's, and nothing here decides who ended one.
 //!
-//! `Pending` has all calls. To read: `specs/Waits` first, where `Holds p ss` says that just the operations of a
+//! `Pending` has all calls. To read: `specs/Waits` first, where `Holds p ss` says that exactly the operations of a
 //! history's `pend` are pending; then the calls in the order of an operation's life (`reserve`, `push`,
-//! `first_receive`, `first_send`, `end`). `proofs/Firsts` says what the first of each is to a history; a new machine
+//! `first_receive`, `first_send`, `end`). `proofs/Firsts` says what the first of each is in a history; a new machine
 //! cites it.
 ghost use Rattle.std.specs.Prelude.{◌≡◌, ◌+◌, ◌<◌, ◌≤◌, ℕ, List, [], ◌∷◌, ◌++◌, true, false, Some, find, filter, length, option_to_list, IfNone, OnOk};
 ghost use Rattle.std.specs.VecDeque.{deque_len, deque_capacity};
@@ -37,20 +37,20 @@ use std::collections::VecDeque;
 struct Waiting {
     op: OpName,
     ctx: Ctx,
-    /// That of a send, as it was begun.
+    /// The message of a send, as it was begun.
     message: Option<Message>,
 }
 
 /// The operations that are pending (nng_aio(5)).
 #[derive(Drop)]
 pub struct Pending {
-    /// In the order of their begins.
+    /// The receives, in the order of their begins.
     receives: VecDeque<Waiting>,
-    /// In the order of their begins.
+    /// The sends, in the order of their begins.
     sends: VecDeque<Waiting>,
 }
 
-// Where the operation stands.
+// The place of the operation.
 fn place_of(waiting: &VecDeque<Waiting>, op: OpName) -> Option<usize>
     ensures { result ≡ position (is_for op) waiting.now.items }
 {
@@ -71,7 +71,7 @@ fn take(waiting: &mut VecDeque<Waiting>, op: OpName) -> Option<Waiting>
     }
 }
 
-// The name of the first.
+// The name of the first operation.
 fn first_of(waiting: &VecDeque<Waiting>) -> Option<OpName>
     ensures { result ≡ option_map (λ w. w.op) (head_of waiting.now.items) }
 {
@@ -82,7 +82,7 @@ fn first_of(waiting: &VecDeque<Waiting>) -> Option<OpName>
 }
 
 impl Pending {
-    /// None is pending, and there is no place.
+    /// No operation is pending, and there are no places.
     pub fn new(alloc: Global) -> Pending
         ensures { Holds result [] }
     {
@@ -92,7 +92,7 @@ impl Pending {
         }
     }
 
-    /// Takes the places of so many operations more. After `NoMemory` it may be asked again.
+    /// Takes the memory for `more` more operations. May be called again after `NoMemory`.
     pub fn reserve(&mut self, more: u32) -> Result<(), NoMemory>
         ensures same { (ss : List Begun) → Holds self.old ss → Holds self.new ss }
         ensures ok { OnOk result (more ≤ room self.new) }
@@ -105,7 +105,7 @@ impl Pending {
         Ok(())
     }
 
-    /// One more begins, for which there is a place.
+    /// Adds an operation, for which there is a place.
     pub fn push(&mut self, op: OpName, ctx: Ctx, act: Act)
         requires { 0 < room self.old }
         ensures begun { (ss : List Begun) → list_any (is_at op.slot) ss ≡ false → Holds self.old ss → Holds self.new (ss ++ record { op = op; ctx = ctx; act = entry_act act } ∷ []) }
@@ -139,7 +139,7 @@ impl Pending {
         first_of(&self.sends)
     }
 
-    /// The receive ends.
+    /// Ends the receive.
     pub fn end_receive(&mut self, op: OpName)
         ensures ended { (ss : List Begun) (s : Begun) → Holds self.old ss → find (is_of op) ss ≡ Some s → is_recv s.act ≡ true → Ends self.old self.new ss op }
         ensures room { room self.old ≤ room self.new }
@@ -147,7 +147,7 @@ impl Pending {
         let _ = take(&mut self.receives, op);
     }
 
-    /// The send ends: returns its message, as it was begun.
+    /// Ends the send, and returns its message, as it was begun.
     pub fn end_send(&mut self, op: OpName) -> Option<Message>
         ensures ended { (ss : List Begun) (s : Begun) (m : Text) → Holds self.old ss → find (is_of op) ss ≡ Some s → s.act ≡ Send m → (option_map text_of result ≡ Some m) × Ends self.old self.new ss op }
         ensures room { room self.old ≤ room self.new }
@@ -158,7 +158,7 @@ impl Pending {
         }
     }
 
-    /// The operation, a receive or a send, ends: returns the message of a send, as it was begun.
+    /// Ends the operation, a receive or a send, and returns the message of a send, as it was begun.
     pub fn end(&mut self, op: OpName) -> Option<Message>
         ensures ended { (ss : List Begun) (s : Begun) → Holds self.old ss → find (is_of op) ss ≡ Some s → (option_map text_of result ≡ message_of s.act) × Ends self.old self.new ss op }
         ensures room { room self.old ≤ room self.new }

@@ -1,4 +1,4 @@
--- What each kind of entry makes of the surveys and of the operations that wait.
+-- What each kind of entry does to the surveys and of the operations that wait.
 use Rattle.std.proofs.Common.{◌≡◌, refl, ap, sym, ◌∙◌, subst, List, [], ◌∷◌, ◌++◌, ℕ, Bool, true, false, cond, Option, Some, None, map}
 use Rattle.std.specs.Prelude.{filter, not, ◌&&◌, ◌||◌, ◌==◌}
 use Rattle.std.specs.List.{list_any}
@@ -79,7 +79,7 @@ module _ (xs : List SurveyView) (id : Option ℕ) (ws : List SurveyOperation) (s
         ends = subst (λ (l : List Begun). Ends (rs.orphans ++ map (orphan_of (how_of e)) (filter (is_bereft cs rs) l)) (map (left_by (has cs) e) ws)) h.pending (ends_left cs e rs ws (apart_ws h) h.ends);
       }
 
-  -- the survey of a context ends on which nothing is pending
+  -- the survey of a context on which nothing is pending ends
   pub shut : (c : ℕ) → list_any (λ (s : Begun). s.ctx == c) ss ≡ false → Asked xs id ws ss rs → Asked (filter (λ (x : SurveyView). not (has (c ∷ []) x.ctx)) xs) id ws ss (end_on (c ∷ []) how.Shut ss rs)
   shut c n h =
       record {

@@ -1,4 +1,4 @@
--- Which of the operations that wait have no survey any more.
+-- The waiting operations that no longer have a survey.
 use Rattle.std.proofs.Common.{◌≡◌, refl, ap, sym, ◌∙◌, subst, List, [], ◌∷◌, ◌++◌, ℕ, ◌+◌, ◌≤◌, Bool, true, false, cond, arith, Option, Some, None, map}
 use Rattle.std.specs.Prelude.{find, filter, not, is_some, ◌&&◌, ◌||◌, ◌==◌}
 use Rattle.std.specs.List.{list_any}
@@ -58,7 +58,7 @@ named op (v ∷ ws) w h = go (same_op v.op op) refl h (named op ws w)
     go true e h again = ap (λ (u : SurveyOperation). u.op) (sym (some_inj h)) ∙ same_op-eq v.op op e
     go false e h again = again h
 
--- where names are apart, the first that passes a test is found by its name
+-- where names are distinct, the first that passes a test is found by its name
 pub find_own : (P : SurveyOperation → Bool) (ws : List SurveyOperation) (w : SurveyOperation) → find P ws ≡ Some w → AreApart (map begun_of ws) → find (is_asked w.op) ws ≡ Some w
 find_own P [] w h a = absurd cc
 find_own P (x ∷ ws) w h a = go (P x) h (λ q. find_own P ws w q rest)
@@ -202,7 +202,7 @@ pub left_like : (f g : ℕ → Bool) (e : SurveyEnd) → ((c : ℕ) → f c ≡ 
 left_like f g e h [] = refl
 left_like f g e h (w ∷ ws) = ap (λ b. record { op = w.op; ctx = w.ctx; message = w.message; ended = ended_by b e w.ended } ∷ map (left_by f e) ws) (h w.ctx) ∙ ap (λ (rest : List SurveyOperation). left_by g e w ∷ rest) (left_like f g e h ws)
 
--- where none of these contexts has a survey that ends, all is as before
+-- where none of these contexts has a survey that ends, nothing changes
 pub none_left_by : (on : ℕ → Bool) (e : SurveyEnd) → ((c : ℕ) → on c ≡ false) → (ws : List SurveyOperation) → map (left_by on e) ws ≡ ws
 none_left_by on e h [] = refl
 none_left_by on e h (w ∷ ws) = ap (λ b. record { op = w.op; ctx = w.ctx; message = w.message; ended = ended_by b e w.ended } ∷ map (left_by on e) ws) (h w.ctx) ∙ ap (λ (o : Option SurveyEnd). record { op = w.op; ctx = w.ctx; message = w.message; ended = o } ∷ map (left_by on e) ws) (same w.ended) ∙ ap (λ (rest : List SurveyOperation). w ∷ rest) (none_left_by on e h ws)

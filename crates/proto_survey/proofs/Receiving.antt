@@ -1,4 +1,4 @@
--- Which receive is given a message next.
+-- The receive that is given a message next.
 use Rattle.std.proofs.Common.{◌≡◌, refl, ap, sym, ◌∙◌, List, [], ◌∷◌, ℕ, Bool, true, false, cond, arith, Option, Some, None, map, length}
 use Rattle.std.specs.Prelude.{find, not, nat_lt, IfSome, IfNone, ◌&&◌, ◌||◌, ◌==◌}
 use Rattle.std.specs.List.{list_any, position, position_or_len}
@@ -47,7 +47,7 @@ apart P (y ∷ xs) x c h n = go (P y) (y.ctx == c) refl h n (apart P xs x c)
     go true false e q k again = sym (ap (λ (z : SurveyView). z.ctx == c) (some_inj q)) ∙ e
     go false false e q k again = again q k
 
--- where no context has two, the one that is found is that of its context
+-- where no context has two, the one that is found is the one of its context
 its_own : (P : SurveyView → Bool) (xs : List SurveyView) (x : SurveyView) → AreDistinct (map survey_ctx xs) → find P xs ≡ Some x → find (is_live_on x.ctx) xs ≡ Some x
 its_own P [] x d h = absurd cc
 its_own P (y ∷ xs) x d h = go (P y) h (its_own P xs x d.1)

@@ -1,4 +1,4 @@
--- What becomes of the live surveys, as lists.
+-- Changes of the live surveys, as lists.
 use Rattle.std.proofs.Common.{◌≡◌, refl, ap, sym, ◌∙◌, subst, List, [], ◌∷◌, ◌++◌, ℕ, Bool, true, false, cond, arith, Some, map, length}
 use Rattle.std.specs.Prelude.{find, filter, not, is_some, ◌&&◌, ◌||◌, ◌==◌}
 use Rattle.std.specs.List.{list_any}
@@ -115,7 +115,7 @@ flip c d = go (d == c) refl ∙ sym (has_one c d)
     go : (b : Bool) → (d == c) ≡ b → b ≡ (c == d)
     go b e = sym (turned d c b e)
 
--- where no context has two, it is the only one that goes
+-- where no context has two, only that one goes
 pub without_is : (c : ℕ) (xs : List SurveyView) → AreDistinct (map survey_ctx xs) → without_live c xs ≡ filter (λ (x : SurveyView). not (has (c ∷ []) x.ctx)) xs
 without_is c xs h = less_is c xs h ∙ filter_like (λ (x : SurveyView). not (x.ctx == c)) (λ (x : SurveyView). not (has (c ∷ []) x.ctx)) (λ x. ap not (flip c x.ctx)) xs
 

@@ -62,7 +62,7 @@ changed f h x y o q e g = go x o ∙ ap (λ b. option_map wire_of (cond {A = Opt
     go false None = refl
     go false (Some r) = ap (λ (w : List ℕ). Some w) (sym (h r))
 
--- each live request is changed, but for what goes out for it
+-- each live request is changed, except for what goes out for it
 pub bytes_changed : (z : Setting) (a b : List Entry) (s : Begun) (f : LiveRequest → LiveRequest) → z.role ≡ role.Surveyor → ((r : LiveRequest) → wire_of (f r) ≡ wire_of r)
     → (z.raw ≡ false → (is_orphan (requests z b) s.op ≡ is_orphan (requests z a) s.op) × (live_on z b s.ctx ≡ option_map f (live_on z a s.ctx))) → bytes_of z a s ≡ bytes_of z b s
 bytes_changed z a b s f h w k = bytes_same z a b s h (λ r. let g = k r in changed f w (is_orphan (requests z a) s.op) (is_orphan (requests z b) s.op) (live_on z a s.ctx) (live_on z b s.ctx) g.0 g.1)
@@ -104,7 +104,7 @@ frame_bytes z before p b s h =
 pub same_requests : (z : Setting) (a b : List Entry) (s : Begun) → z.role ≡ role.Surveyor → requests z b ≡ requests z a → bytes_of z a s ≡ bytes_of z b s
 same_requests z a b s h e = bytes_same z a b s h (λ r. ap (λ (rs : Requests). option_map wire_of (cond {A = Option LiveRequest} (is_orphan rs s.op) None (find (is_on s.ctx) rs.live))) (sym e))
 
--- ---- One orphan less
+-- ---- One orphan fewer
 
 module _ (op other : OpName) where
   is_not : same_op op other ≡ false → (a : OpName) → same_op a op ≡ true → same_op a other ≡ false

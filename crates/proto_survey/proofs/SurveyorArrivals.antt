@@ -270,14 +270,14 @@ module _ (m : Survey) (t : Moment) (p : ℕ) (b : List ℕ) (h : Ties m t) where
   pub malformed_ties : malformed t.z (past t) p b ≡ true → Ties m (also t (Frame p b))
   malformed_ties e = ((h.0.0, h.0.1, h.0.2, λ r. h.0.3 r ∙ short_pool e, short_asked e), frame_floods)
 
-  -- there was no memory for it
+  -- there was no memory for the frame
   pub unkept_ties : Ties m (also (also t (Frame p b)) (Unkept p))
   unkept_ties = (
     (h.0.0, h.0.1, h.0.2, h.0.3, subst (λ (q : Requests). Asked m.live.items m.last_id m.waiting.items (pend (past t)) q) (sym (unkept_makes t.z (past t) p p b)) h.0.4),
     goes_on _ (also t (Frame p b)) (Unkept p) refl refl refl (λ s e. subst (IsFlood m.raw m.last_id m.copies.items) (sym (frame_bytes t.z (past t) p b s (is_survey m t h)) ∙ same_requests t.z (past t) (Unkept p ∷ frame_past) s (is_survey m t h) (unkept_makes t.z (past t) p p b))) frame_floods,
   )
 
-  -- raw, it is kept
+  -- raw, the frame is kept
   pub raw_frame_ties : (n : Survey) → m.raw ≡ true → first_word b ≢ None → n ≡ record m { kept = n.kept } → map item_of n.kept.items ≡ map item_of m.kept.items ++ raw_item p b ∷ [] → Ties n (also t (Frame p b))
   raw_frame_ties n r f same items =
       subst (λ (y : Survey). Ties y (also t (Frame p b))) (sym same) (
@@ -296,7 +296,7 @@ module _ (m : Survey) (t : Moment) (p : ℕ) (b : List ℕ) (h : Ties m t) where
           no_topics : (z : Setting) → z.role ≡ role.Surveyor → has_topics z ≡ false
           no_topics z i = rw i refl
 
-  -- cooked, it is a response
+  -- cooked, the frame is a response
   module _ (k : ℕ) (v : MessageView) (r : m.raw ≡ false) (f : first_word b ≡ Some k) (e : v ≡ record { header = []; body = drop 4 b }) where
     abbrev reply_to : SurveyView → SurveyView
     reply_to y = cond (y.id == k) (with_reply m.options.queue v y) y
@@ -347,7 +347,7 @@ module _ (m : Survey) (t : Moment) (p : ℕ) (b : List ℕ) (h : Ties m t) where
           frame_floods,
         )
 
--- what is left of a frame behind its id
+-- what is left of a frame after its id
 pub trimmed_is : {U : Type 0} (old new : MessageView) (r : Result U Short) → Trimmed 4 old new r → old.header ≡ [] → first_word old.body ≢ None → new ≡ record { header = []; body = drop 4 old.body }
 trimmed_is old new (Ok u) h e f = h.1 ∙ ap (λ (l : List ℕ). let v : MessageView = record { header = l; body = drop 4 old.body } in v) e
 trimmed_is old new (Err u) h e f = let long : nat_lt (length old.body) 4 ≡ false = long_word old.body f in absurd (short (length old.body) h.0 long)
@@ -355,7 +355,7 @@ trimmed_is old new (Err u) h e f = let long : nat_lt (length old.body) 4 ≡ fal
     short : (n : ℕ) → n < 4 → nat_lt n 4 ≡ false → ⊥
     short n a b = grind (arith, nat_tests)
 
--- a raw frame came, whatever became of it
+-- a raw frame came, with any result
 pub raw_frame_all : (m n : Survey) (t : Moment) (p : ℕ) (b : List ℕ) (r : Verdict) → Ties m t → m.raw ≡ true → (n ≡ record m { kept = n.kept }) × KeepsRaw r p b m.kept.items n.kept.items → Frames (Ties n) r t p b
 raw_frame_all m n t p b verdict.Fine h r k = (long_frame m t p b h k.1.0, raw_frame_ties m t p b h n r k.1.0 k.0 k.1.1)
 raw_frame_all m n t p b verdict.Malformed h r k =

@@ -165,7 +165,7 @@ sent_same z None ss rs = refl
 sent_same z (Some s) ss rs = refl
 
 module _ (m : Survey) (t : Moment) (op : OpName) (s : Begun) (h : Ties m t) (p : pending (past t) op ≡ Some s) where
-  -- a receive that ends is nothing to a send
+  -- a receive that ends doesn't concern a send
   stays : (ending : Ending) → is_recv s.act ≡ true → is_part_of_send t.z (End op ending) ≡ false → ((r : Begun) → same_op op r.op ≡ false → bytes_of t.z (past t) r ≡ bytes_of t.z (End op ending ∷ past t) r)
       → HasFlood (also t (End op ending)) (length m.copies.items) (λ (r : Begun). IsFlood m.raw m.last_id m.copies.items (bytes_of t.z (End op ending ∷ past t) r))
   stays ending is part same = receive_ends _ t op s ending h.0.4.apart p is part (λ r e. subst (IsFlood m.raw m.last_id m.copies.items) (same r e)) h.1

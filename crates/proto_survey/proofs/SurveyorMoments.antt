@@ -1,4 +1,4 @@
--- A surveyor stands for its history after the calls that tell of pipes, contexts, turns and time.
+-- A surveyor stands for its history after the calls for pipes, contexts, turns and time.
 use Rattle.std.proofs.Common.{◌≡◌, ◌≢◌, refl, ap, sym, ◌∙◌, subst, List, [], ◌∷◌, ◌++◌, ℕ, ◌+◌, ◌-◌, ◌≤◌, max, Bool, true, false, cond, arith, Option, Some, None, map}
 use Rattle.std.specs.Prelude.{filter, not, min, ◌^◌, ◌&&◌, ◌||◌, ◌==◌}
 use Rattle.std.specs.List.{list_any}
@@ -217,7 +217,7 @@ module _ (m : Survey) (t : Moment) (n : ℕ) (due : List OpName) (h : Ties m t) 
         no_flood _ _ (also t (Tick n due)) (calm (it_floods t.z (is_survey m t h))),
       )
 
-  -- none is over
+  -- no survey is over
   pub quiet_ties : (x : Survey) → NoFlood t → Lawful (also t (Tick n due)) → x ≡ record m { tick = n } → list_any (is_over m.options.survey n) m.live.items ≡ false → Ties x (also t (Tick n due))
   quiet_ties x calm l same none =
       ticked_ties x calm l (same ∙ sym (ap (λ (y : Survey). record m { tick = n; live = y.live; waiting = y.waiting }) same)) (ap (λ (y : Survey). y.live.items) same ∙ sym (none_over (is_over m.options.survey n) m.live.items none))
@@ -247,7 +247,7 @@ closed_ties m n t totals l h same live kept =
       no_flood _ _ (also t (Close totals)) (ap sending l.turn.0.itself.0),
     )
 
--- the live surveys were written with what they were
+-- the live surveys were overwritten by the same ones
 pub same_live : (m n : Survey) (t : Moment) → n ≡ record m { live = n.live } → n.live.items ≡ m.live.items → Ties m t → Ties n t
 same_live m n t same items h = subst (λ (x : Survey). Ties x t) (sym same) (
   (h.0.0, h.0.1, h.0.2, h.0.3, subst (λ (xs : List SurveyView). Asked xs m.last_id m.waiting.items (pend (past t)) (requests t.z (past t))) (sym items) h.0.4),

@@ -64,7 +64,7 @@ awaits_there id most x h l = rw h (below (length x.replies) most l)
     below : (n m : ℕ) → n < m → nat_lt n m ≡ true
     below n m l = grind (arith, nat_tests)
 
--- the response is kept by the survey at this place, or all is as before and it is to be kept
+-- the response is kept by the survey at this place, or nothing changes and it was to be kept
 pub keeps_there : (b : Bool) (id most : ℕ) (m : MessageView) (xs : List SurveyView) (i : ℕ) (d v : SurveyView) → position (has_number id) xs ≡ Some i → (b ≡ true → v ≡ with_reply most m (slice_index_or xs i d)) → (b ≡ false → v ≡ slice_index_or xs i d) → (b ≡ false → length (slice_index_or xs i d).replies < most) → KeepsReply b id most m xs (slice_set xs i v)
 keeps_there true id most m xs i d v h k s few = ap (slice_set xs i) (k refl) ∙ with_at (has_number id) (with_reply most m) xs i d h
 keeps_there false id most m xs i d v h k s few =

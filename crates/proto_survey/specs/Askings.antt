@@ -1,4 +1,4 @@
--- The operations of a surveyor that wait, and which of them have no survey any more.
+-- The operations of a surveyor that wait, and those of them that no longer have a survey.
 use Rattle.std.specs.Prelude.{◌≡◌, ◌==◌, ◌&&◌, not, ℕ, Bool, if◌then◌else◌, List, find, Option, Some, None, is_some}
 use Rattle.std.specs.Option.{option_map}
 use Rattle.sp_base.specs.declared.OpName.{OpName}
@@ -33,7 +33,7 @@ receives_on c w = not (is_sending w) && (w.ctx == c)
 abbrev pub without_first : OpName → List SurveyOperation → List SurveyOperation
 without_first op ws = without_found (is_asked op) ws
 
--- how its survey ended first
+-- how its survey ended at first
 abbrev pub ended_by : Bool → SurveyEnd → Option SurveyEnd → Option SurveyEnd
 ended_by on e (Some first) = Some first
 ended_by on e None = if on then Some e else None
@@ -46,7 +46,7 @@ abbrev pub how_of : SurveyEnd → How
 how_of ends.Replaced = how.Replaced
 how_of ends.Over = how.Over
 
--- the cause for which a receive of a survey that ended so is finished
+-- the cause for which a receive is finished whose survey ended in this way
 abbrev pub cause_is : SurveyEnd → Cause
 cause_is ends.Replaced = Superseded
 cause_is ends.Over = SurveyOver

@@ -1,4 +1,4 @@
--- A survey that is live, and what becomes of it.
+-- A live survey, and its changes.
 use Rattle.std.specs.Prelude.{ℕ, zero, suc, ◌+◌, ◌==◌, nat_le, nat_lt, Bool, false, not, ◌&&◌, if◌then◌else◌, List, [], ◌∷◌, ◌++◌, length, map, drop, find, filter, Option, Some, None}
 use Rattle.std.specs.List.{list_any}
 use Rattle.sp_msg.specs.Views.{MessageView}
@@ -18,7 +18,7 @@ pub record SurveyView : Type 0 where
 abbrev pub view_of : Item → MessageView
 view_of i = record { header = i.message.header; body = i.message.body }
 
--- what a surveyor has of a request
+-- the survey that a surveyor has for a request
 abbrev pub survey_of : LiveRequest → SurveyView
 survey_of r = record { ctx = r.ctx; id = r.id; birth = r.birth; replies = map view_of r.replies }
 
@@ -37,16 +37,16 @@ is_live_on c x = x.ctx == c
 abbrev pub has_number : ℕ → SurveyView → Bool
 has_number id x = x.id == id
 
--- so much time has gone
+-- `time` milliseconds have passed since its begin
 abbrev pub is_over : ℕ → ℕ → SurveyView → Bool
 is_over time now x = nat_le (x.birth + time) now
 
--- one response more, where fewer than so many are kept
+-- one more response, where fewer than `most` are kept
 abbrev pub with_reply : ℕ → MessageView → SurveyView → SurveyView
 with_reply most m x =
     if nat_lt (length x.replies) most then record { ctx = x.ctx; id = x.id; birth = x.birth; replies = x.replies ++ m ∷ [] } else x
 
--- it has this id, and fewer than so many responses are kept
+-- it has this id, and fewer than `most` responses are kept
 abbrev pub awaits : ℕ → ℕ → SurveyView → Bool
 awaits id most x = has_number id x && nat_lt (length x.replies) most
 

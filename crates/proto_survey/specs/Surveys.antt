@@ -1,4 +1,4 @@
--- What a surveyor stands for.
+-- The history that a surveyor stands for.
 use Rattle.std.specs.Prelude.{◌≡◌, ◌≢◌, ◌<◌, ◌-◌, ◌^◌, ◌==◌, ◌&&◌, ℕ, Bool, true, false, not, List, [], ◌∷◌, ◌++◌, length, map, Option, Some, None}
 use Rattle.sp_base.specs.declared.role.Role.TheVariants as role
 use Rattle.sp_msg.specs.Views.{MessageView, wire_text}
@@ -32,7 +32,7 @@ use Rattle.proto_survey.specs.Askings.{begun_of, is_sending, receives_on, left_b
 abbrev pub survey_kind : Bool → Options → Kind
 survey_kind raw options = record { role = role.Surveyor; raw = raw; options = options }
 
--- how many operations more can begin
+-- how many more operations can begin
 abbrev pub places_left : Survey → ℕ
 places_left m = vec_capacity m.waiting - vec_len m.waiting
 
@@ -53,7 +53,7 @@ without_live c xs = without_found (is_live_on c) xs
 abbrev pub AreSame : MessageView → List MessageView → Type 0
 AreSame m xs = Each (λ (x : MessageView). x ≡ m) xs
 
--- what goes out for a copy: raw as it is, else behind the id
+-- what goes out for a copy: raw as it is, else after the id
 abbrev pub out_text : Bool → Option ℕ → MessageView → List ℕ
 out_text true id m = wire_text m
 out_text false None m = wire_text m
@@ -85,7 +85,7 @@ abbrev pub KeepsReply : Bool → ℕ → ℕ → MessageView → List SurveyView
 KeepsReply true id most m old new = new ≡ with_found (has_number id) (with_reply most m) old
 KeepsReply false id most m old new = (new ≡ old) × (list_any (awaits id most) old ≡ true)
 
--- the frame is a response to a live survey that keeps fewer than so many
+-- the frame is a response to a live survey that keeps fewer than `most`
 abbrev pub IsAwaited : ℕ → List ℕ → List SurveyView → Type 0
 IsAwaited most b xs = (id : ℕ) × (first_word b ≡ Some id) × (list_any (awaits id most) xs ≡ true)
 
@@ -111,7 +111,7 @@ IsNext m i =
     (among : ℕ → Bool) × (position (λ (w : SurveyOperation). not (is_sending w) && among w.ctx) m.waiting.items ≡ Some i)
     × (AreDistinct (map survey_ctx m.live.items) → (c : ℕ) → among c ≡ true → is_given m.raw m.kept.items m.live.items c ≡ true)
 
--- the state has no place for it: cooked, a receive wants a live survey
+-- the state doesn't allow it: cooked, a receive needs a live survey
 abbrev pub survey_state : Bool → List SurveyView → ℕ → Verb → Bool
 survey_state true xs c v = false
 survey_state false xs c verbs.Recv = not (list_any (is_live_on c) xs)
@@ -119,7 +119,7 @@ survey_state false xs c verbs.Send = false
 
 -- ---- What it stands for
 
--- what it is set to, and the time
+-- its settings, and the time
 pub record SetTo (raw : Bool) (options : Options) (tick : ℕ) (k : Kind) (t : ℕ) : Type 0 where
   pub kind : k ≡ survey_kind raw options
   pub moment : tick ≡ t
@@ -128,8 +128,8 @@ pub record SetTo (raw : Bool) (options : Options) (tick : ℕ) (k : Kind) (t : �
 abbrev pub Keeps : Bool → List KeptResponse → List Item → Type 0
 Keeps raw ks is = raw ≡ true → map item_of ks ≡ is
 
--- the live surveys, all of other ids and contexts; the pending operations, the oldest first, and which of them have no
--- survey any more
+-- the live surveys, with different ids and contexts; the pending operations, the oldest first, and those of them that
+-- no longer have a survey
 pub record Asked (xs : List SurveyView) (id : Option ℕ) (ws : List SurveyOperation) (ss : List Begun) (rs : Requests) : Type 0 where
   pub live : xs ≡ map survey_of rs.live
   pub last_id : id ≡ rs.last_id
@@ -144,7 +144,7 @@ abbrev pub IsFlood : Bool → Option ℕ → List MessageView → Option (List �
 IsFlood raw id copies None = ⊥
 IsFlood raw id copies (Some b) = Each (λ (x : MessageView). out_text raw id x ≡ b) copies
 
--- what it is set to and the time, how many pipes are up, the open contexts, what it keeps, and the surveys with the pending
+-- its settings and the time, how many pipes are up, the open contexts, what it keeps, and the surveys with the pending
 -- operations
 abbrev pub Stands : Survey → MomentReading → Type 0
 Stands m r =

@@ -3,10 +3,9 @@
 //! `Survey` is a surveyor (nng_surveyor(7)). A send on a context begins a survey with an id of its own, which goes to
 //! every pipe that is up and has room, in the turn of its begin. Responses with its id are kept for it, `queue` at
 //! most, until it is over: at its time, when a newer one on its context replaces it, or when its context is shut. The
-//! receives that wait for it then are to be finished. Raw, the first word of a message is its header.
+//! receives that wait for it are then finished. Raw, the first word of a message is its header.
 //!
-//! `Respond` is a respondent (nng_respondent(7)), which is a rep in every rule, and so the machine of one
-//! (`proto_rep`).
+//! `Respond` is a respondent (nng_respondent(7)), which follows the rules of a rep, and uses its machine (`proto_rep`).
 //!
 //! Who owns what: a survey that is live (`live`) owns its responses until a receive takes them. The surveyor owns the
 //! operations that wait with their messages (`waiting`), and the copies of the send that is going out. When a survey

@@ -1,4 +1,4 @@
-//! A survey that is live.
+//! A live survey.
 ghost use Rattle.std.specs.Prelude.{◌≡◌, ◌==◌, ◌^◌, ◌<◌, true, false, length};
 ghost use Rattle.sp_history.specs.Lists.{is_nil, head_of};
 ghost use Rattle.proto_survey.specs.Lives.{fresh_survey, given_from, has_number, is_live_on, is_over, with_reply};
@@ -9,11 +9,11 @@ use std::alloc::Global;
 use std::collections::VecDeque;
 use std::marker::Model;
 
-/// A survey (nng_surveyor(7)) that is live.
+/// A live survey (nng_surveyor(7)).
 #[derive(Drop)]
 pub struct LiveSurvey {
     ctx: Ctx,
-    /// The first word of what went out for it and of each response.
+    /// The first word of what went out for it, and of each response.
     id: u32,
     /// The moment of its begin.
     birth: Tick,
@@ -42,43 +42,42 @@ impl LiveSurvey {
         }
     }
 
-    /// It is of this context.
+    /// Returns whether it belongs to this context.
     pub fn is_on(&self, c: Ctx) -> bool
         ensures { result ≡ is_live_on c self.now }
     {
         self.ctx.0 == c.0
     }
 
-    /// The context that it is of.
+    /// Its context.
     pub fn ctx(&self) -> Ctx
         ensures { result ≡ self.now.ctx }
     {
         self.ctx
     }
 
-    /// It has this id.
+    /// Returns whether it has this id.
     pub fn has_id(&self, id: u32) -> bool
         ensures { result ≡ has_number id self.now }
     {
         self.id == id
     }
 
-    /// So many milliseconds have gone since its begin.
+    /// Returns whether `time` milliseconds have passed since its begin.
     pub fn is_over(&self, time: u64, now: Tick) -> bool
         ensures { result ≡ is_over time now self.now }
     {
         self.birth.0 <= now.0 && now.0 - self.birth.0 >= time
     }
 
-    /// No response is kept.
+    /// Returns whether no response is kept.
     pub fn is_empty(&self) -> bool
         ensures { result ≡ is_nil self.now.replies }
     {
         self.replies.is_empty()
     }
 
-    /// Keeps the response, where fewer than so many are kept. Returns false where that found no memory; then all is
-    /// as before.
+    /// Keeps the response, where fewer than `most` are kept. Returns false when out of memory; then nothing changes.
     pub fn keep(&mut self, most: u32, m: Message) -> bool
         ensures kept { result ≡ true → self.new ≡ with_reply most m self.old }
         ensures same { result ≡ false → self.new ≡ self.old }
@@ -90,7 +89,7 @@ impl LiveSurvey {
         self.replies.push_back(m).is_ok()
     }
 
-    /// The oldest response, which is kept no longer.
+    /// Takes out the oldest response.
     pub fn give(&mut self) -> Option<Message>
         ensures given { result ≡ head_of self.old.replies }
         ensures rest { self.new ≡ given_from self.old }

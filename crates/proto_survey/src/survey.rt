@@ -32,7 +32,7 @@ use sp_proto::{Act, CheckError, Offer, Proto, UpFault, Verb, Verdict};
 use std::alloc::Global;
 use std::collections::VecDeque;
 
-/// So many surveys can be live.
+/// The maximum number of live surveys.
 const MOST_LIVE: usize = 2_147_483_647;
 
 /// A message that is kept, and the pipe that it came from.
@@ -51,23 +51,23 @@ pub struct Survey {
     tick: Tick,
     /// The id of the survey that was begun last.
     last_id: Option<u32>,
-    /// How many pipes are up.
+    /// The number of pipes that are up.
     pipes: usize,
     /// The open contexts, in the order in which they were opened.
     contexts: Vec<Ctx>,
-    /// Cooked: at most one of each context, in the order of their begins.
+    /// Cooked: the live surveys, at most one of each context, in the order of their begins.
     live: Vec<LiveSurvey>,
-    /// Raw: the oldest first, at most one of each pipe.
+    /// Raw: the responses that are kept, the oldest first, at most one of each pipe.
     kept: VecDeque<KeptResponse>,
-    /// In the order of their begins.
+    /// The operations that wait, in the order of their begins.
     waiting: Vec<SurveyOperation>,
-    /// Of the send that is pending, one for each pipe that gets it.
+    /// The copies of the pending send, one for each pipe that gets it.
     copies: Vec<Message>,
 }
 
 // ---- Contexts
 
-// The first context.
+// The contexts of a new surveyor: the socket's own.
 fn first_context(alloc: Global) -> Result<Vec<Ctx>, NoMemory>
     ensures { IfOk result (λ v. v.items ≡ 0 ∷ []) }
 {
@@ -76,7 +76,7 @@ fn first_context(alloc: Global) -> Result<Vec<Ctx>, NoMemory>
     Ok(contexts)
 }
 
-// The context is open.
+// Returns whether the context is open.
 fn is_open(contexts: &[Ctx], c: Ctx) -> bool
     ensures { result ≡ has contexts.now c }
 {
@@ -85,21 +85,21 @@ fn is_open(contexts: &[Ctx], c: Ctx) -> bool
 
 // ---- Surveys that are live
 
-// Where the survey of the context stands.
+// The place of the survey of the context.
 fn live_place(live: &[LiveSurvey], c: Ctx) -> Option<usize>
     ensures { result ≡ position (is_live_on c) live.now }
 {
     live.iter().position(|x| x.is_on(c))
 }
 
-// The context has a live survey.
+// Returns whether the context has a live survey.
 fn has_live(live: &[LiveSurvey], c: Ctx) -> bool
     ensures { result ≡ list_any (is_live_on c) live.now }
 {
     live.iter().any(|x| x.is_on(c))
 }
 
-// A response is kept for the context.
+// Returns whether a response is kept for the context.
 fn keeps_for(live: &[LiveSurvey], c: Ctx) -> bool
     ensures { result ≡ keeps_at live.now c }
 {
@@ -109,7 +109,7 @@ fn keeps_for(live: &[LiveSurvey], c: Ctx) -> bool
     }
 }
 
-// Where a survey stands that keeps a response for a receive that waits.
+// The place of a survey that keeps a response for a receive that waits.
 fn fed_place(live: &[LiveSurvey], waiting: &[SurveyOperation]) -> Option<usize>
     ensures { result ≡ position (is_fed waiting.now) live.now }
 {
@@ -136,14 +136,14 @@ fn end_over(live: &mut Vec<LiveSurvey>, time: u64, now: Tick)
     live.retain(|x| !x.is_over(time, now));
 }
 
-// One of them is over.
+// Returns whether one of them is over.
 fn has_over(live: &[LiveSurvey], time: u64, now: Tick) -> bool
     ensures { result ≡ list_any (is_over time now) live.now }
 {
     live.iter().any(|x| x.is_over(time, now))
 }
 
-// Takes the oldest response of the context.
+// Takes out the oldest response of the context.
 fn give(live: &mut [LiveSurvey], c: Ctx) -> Option<Message>
     ensures given { result ≡ first_in (find (is_live_on c) live.old) }
     ensures rest { live.new ≡ with_found (is_live_on c) given_from live.old }
@@ -154,15 +154,15 @@ fn give(live: &mut [LiveSurvey], c: Ctx) -> Option<Message>
     }
 }
 
-// Where the survey stands that has this id.
+// The place of the survey that has this id.
 fn id_place(live: &[LiveSurvey], id: u32) -> Option<usize>
     ensures { result ≡ position (has_number id) live.now }
 {
     live.iter().position(|x| x.has_id(id))
 }
 
-// Keeps the response for the survey that has this id, if there is one and it keeps fewer than so many. Returns false
-// where that found no memory; then all is as before.
+// Keeps the response for the survey that has this id, if there is one and it keeps fewer than `most`. Returns false
+// when out of memory; then nothing changes.
 fn keep(live: &mut [LiveSurvey], id: u32, most: u32, m: Message) -> bool
     ensures { KeepsReply result id most m live.old live.new }
 {
@@ -174,14 +174,14 @@ fn keep(live: &mut [LiveSurvey], id: u32, most: u32, m: Message) -> bool
 
 // ---- Ids
 
-// The number after it, with the top bit set.
+// The next number, with the top bit set.
 fn number_after(id: u32) -> u32
     ensures { result ≡ number_after id }
 {
     (id % 2_147_483_648 + 1) % 2_147_483_648 + 2_147_483_648
 }
 
-// A live survey has this id.
+// Returns whether a live survey has this id.
 fn is_taken(live: &[LiveSurvey], id: u32) -> bool
     ensures { result ≡ list_any (has_number id) live.now }
 {
@@ -213,7 +213,7 @@ fn next_id(live: &[LiveSurvey], dice: u32, last: Option<u32>) -> u32
 
 // ---- Messages
 
-// The number of the first 4 bytes.
+// The number in the first 4 bytes.
 fn first_word(b: &[u8]) -> Option<u32>
     ensures { result ≡ first_word b.now }
 {
@@ -236,7 +236,7 @@ fn copies_of(alloc: Global, m: &Message, most: usize) -> Result<Vec<Message>, No
     Ok(copies)
 }
 
-// As it goes out: raw as it is, else behind its id.
+// The copy as it goes out: raw as it is, otherwise after its id.
 fn led(raw: bool, id: Option<u32>, copy: Message) -> Message
     ensures { wire_text result ≡ out_text raw id copy }
 {
@@ -254,7 +254,7 @@ fn led(raw: bool, id: Option<u32>, copy: Message) -> Message
     }
 }
 
-// Raw: takes the oldest.
+// Raw: takes out the oldest response.
 fn oldest(kept: &mut VecDeque<KeptResponse>) -> Option<Message>
     ensures first { result ≡ option_map (λ (k : KeptResponseType). k.message) (head_of kept.old.items) }
     ensures rest { kept.new.items ≡ drop 1 kept.old.items }
@@ -266,7 +266,7 @@ fn oldest(kept: &mut VecDeque<KeptResponse>) -> Option<Message>
 }
 
 impl Survey {
-    /// A surveyor to which nothing has happened.
+    /// A new surveyor.
     pub fn new(alloc: Global, options: Options, raw: bool) -> Result<Survey, NoMemory>
         requires { Fits options }
         ensures { IfOk result (λ m. Starts Ties m (survey_kind raw options)) }
@@ -287,7 +287,7 @@ impl Survey {
         })
     }
 
-    // A new survey of the context takes the place of the one that is live.
+    // Begins a new survey of the context in place of the live one.
     fn ask(&mut self, c: Ctx) -> Result<(), NoMemory>
         ensures asked { OnOk result (Asks c self.old self.new) }
         ensures same { OnErr result ((self.new.live.items ≡ self.old.live.items) × (self.new ≡ record self.old { live = self.new.live })) }
@@ -308,7 +308,7 @@ impl Survey {
         Ok(())
     }
 
-    // Raw, its first word goes to the header.
+    // Keeps a raw response: its first word goes to the header.
     fn keep_raw(&mut self, p: PipeId, m: Message) -> Verdict
         requires { m.header ≡ [] }
         ensures { (self.new ≡ record self.old { kept = self.new.kept }) × KeepsRaw result p m.body self.old.kept.items self.new.kept.items }
@@ -326,7 +326,7 @@ impl Survey {
         }
     }
 
-    // A message can be given to a receive of the context.
+    // Returns whether a message can be given to a receive of the context.
     fn gives(&self, c: Ctx) -> bool
         ensures { result ≡ is_given self.now.raw self.now.kept.items self.now.live.items c }
     {
@@ -336,7 +336,7 @@ impl Survey {
         keeps_for(&self.live, c)
     }
 
-    // Raw: where the first receive stands, if a message is kept.
+    // Raw: the place of the first receive, if a message is kept.
     fn raw_place(&self) -> Option<usize>
         requires { self.now.raw ≡ true }
         ensures { result ≡ position (gets self.now) self.now.waiting.items }
@@ -349,7 +349,7 @@ impl Survey {
             .position(|w| w.message.is_none() && self.gives(w.ctx))
     }
 
-    // Where a receive stands that can be given a message, the first of its context.
+    // The place of a receive that can be given a message, the first of its context.
     fn give_place(&self) -> Option<usize>
         ensures next { IfSome result (λ i. IsNext self.now i) }
         ensures none { IfNone result (find (gets self.now) self.now.waiting.items ≡ None) }
@@ -363,7 +363,7 @@ impl Survey {
         }
     }
 
-    // The state of the context has no place for it: cooked, a receive wants a live survey.
+    // Returns whether the state of the context doesn't allow it: cooked, a receive needs a live survey.
     fn lacks_survey(&self, c: Ctx, verb: Verb) -> bool
         ensures { result ≡ survey_state self.now.raw self.now.live.items c verb }
     {
@@ -376,7 +376,7 @@ impl Survey {
         }
     }
 
-    // A message of the pipe is kept.
+    // Returns whether a message of the pipe is kept.
     fn keeps_of(&self, p: PipeId) -> bool
         ensures { result ≡ list_any (λ (k : KeptResponseType). k.pipe == p) self.now.kept.items }
     {

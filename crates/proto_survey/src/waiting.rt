@@ -12,12 +12,12 @@ use sp_base::{Ctx, OpName, Tick};
 use sp_history::entry::Cause;
 use sp_msg::Message;
 
-/// How a survey ended before the receives that wait for it (nng_surveyor(7)).
+/// How a survey ended before its receives did (nng_surveyor(7)).
 #[derive(Clone, Copy, PartialEq, Eq, Debug)]
 pub enum SurveyEnd {
     /// A newer one began on its context.
     Replaced,
-    /// Its time was over.
+    /// Its time had passed.
     Over,
 }
 
@@ -28,13 +28,13 @@ pub struct SurveyOperation {
     pub op: OpName,
     /// The context that it was begun on.
     pub ctx: Ctx,
-    /// Of a send: its message.
+    /// The message of a send.
     pub message: Option<Message>,
-    /// Of a receive whose survey has ended.
+    /// How the survey of a receive has ended, if it has.
     pub ended: Option<SurveyEnd>,
 }
 
-// Where the operation stands.
+// The place of the operation.
 fn place_of(waiting: &[SurveyOperation], op: OpName) -> Option<usize>
     ensures { result ≡ position (is_asked op) waiting.now }
 {
@@ -54,7 +54,7 @@ pub fn take(waiting: &mut Vec<SurveyOperation>, op: OpName) -> Option<SurveyOper
     }
 }
 
-/// The operation waits, the last of all.
+/// Adds an operation, as the last one.
 pub fn wait(waiting: &mut Vec<SurveyOperation>, op: OpName, c: Ctx, message: Option<Message>)
     requires { vec_len waiting.old < vec_capacity waiting.old }
     ensures items { waiting.new.items ≡ waiting.old.items ++ record { op = op; ctx = c; message = message; ended = None } ∷ [] }
@@ -69,21 +69,21 @@ pub fn wait(waiting: &mut Vec<SurveyOperation>, op: OpName, c: Ctx, message: Opt
     });
 }
 
-/// Where the first send stands.
+/// The place of the first send.
 pub fn send_place(waiting: &[SurveyOperation]) -> Option<usize>
     ensures { result ≡ position is_sending waiting.now }
 {
     waiting.iter().position(|w| w.message.is_some())
 }
 
-/// Where the first operation stands whose survey has ended.
+/// The place of the first operation whose survey has ended.
 pub fn ended_place(waiting: &[SurveyOperation]) -> Option<usize>
     ensures { result ≡ position (λ (w : SurveyOperationType). is_some w.ended) waiting.now }
 {
     waiting.iter().position(|w| w.ended.is_some())
 }
 
-// How its survey ended, where it may end now.
+// How its survey ended, where `on` says that it may end now.
 fn ended_by(on: bool, end: SurveyEnd, was: Option<SurveyEnd>) -> Option<SurveyEnd>
     ensures { result ≡ ended_by on end was }
 {
@@ -93,14 +93,14 @@ fn ended_by(on: bool, end: SurveyEnd, was: Option<SurveyEnd>) -> Option<SurveyEn
     }
 }
 
-// The same context.
+// Returns whether the contexts are the same.
 fn is_same(a: Ctx, b: Ctx) -> bool
     ensures { result ≡ (a == b) }
 {
     a.0 == b.0
 }
 
-/// A receive of the context waits.
+/// Returns whether a receive of the context waits.
 pub fn waits_on(waiting: &[SurveyOperation], c: Ctx) -> bool
     ensures { result ≡ list_any (receives_on c) waiting.now }
 {
@@ -109,7 +109,7 @@ pub fn waits_on(waiting: &[SurveyOperation], c: Ctx) -> bool
         .any(|w| w.message.is_none() && is_same(w.ctx, c))
 }
 
-/// Where the first receive of the context stands.
+/// The place of the first receive of the context.
 pub fn receive_place(waiting: &[SurveyOperation], c: Ctx) -> Option<usize>
     ensures { result ≡ position (receives_on c) waiting.now }
 {
@@ -118,7 +118,7 @@ pub fn receive_place(waiting: &[SurveyOperation], c: Ctx) -> Option<usize>
         .position(|w| w.message.is_none() && is_same(w.ctx, c))
 }
 
-/// The survey of the context is replaced, and leaves its receives behind.
+/// Marks the receives of the context, whose survey is replaced.
 pub fn leave_on(waiting: &mut [SurveyOperation], c: Ctx)
     ensures { waiting.new ≡ map (left_by (λ d. d == c) ends.Replaced) waiting.old }
 {
@@ -127,14 +127,14 @@ pub fn leave_on(waiting: &mut [SurveyOperation], c: Ctx)
     }
 }
 
-// The survey of the context is over.
+// Returns whether the survey of the context is over.
 fn is_over_on(live: &[LiveSurvey], time: u64, now: Tick, c: Ctx) -> bool
     ensures { result ≡ over_on time now live.now c }
 {
     live.iter().any(|x| x.is_on(c) && x.is_over(time, now))
 }
 
-/// The surveys that are over leave their receives behind.
+/// Marks the receives whose surveys are over.
 pub fn leave_over(waiting: &mut [SurveyOperation], live: &[LiveSurvey], time: u64, now: Tick)
     ensures { waiting.new ≡ map (left_by (over_on time now live.now) ends.Over) waiting.old }
 {
@@ -143,7 +143,7 @@ pub fn leave_over(waiting: &mut [SurveyOperation], live: &[LiveSurvey], time: u6
     }
 }
 
-/// The cause for which a receive of a survey that ended so is finished.
+/// The cause for which a receive is finished whose survey ended in this way.
 pub fn cause_of(end: SurveyEnd) -> Cause
     ensures { result ≡ cause_is end }
 {

@@ -54,9 +54,9 @@ cut-same P Q to back s prefix rest cut = record {
   stuck = λ x more e h. cut.stuck x more e (h.0, back ((prefix ++ x ∷ []) ++ h.0) h.1);
 }
 
--- ---- one set behind another
+-- ---- one set after another
 
--- a list of the one set, and one of the other behind it
+-- a list of the first set, followed by one of the second
 pub record Joined {A : Type 0} (First Second : List A → Type 0) (t : List A) : Type 0 where
   pub left : List A
   pub right : List A
@@ -64,7 +64,7 @@ pub record Joined {A : Type 0} (First Second : List A → Type 0) (t : List A) :
   pub second : Second right
   pub whole : t ≡ left ++ right
 
--- a list of the first set with one of the second behind it: no prefix of the first set goes on into the second
+-- a list of the first set followed by one of the second: no prefix of the first set goes on into the second
 abbrev pub Apart : {A : Type 0} → (List A → Type 0) → (List A → Type 0) → Type 0
 Apart {A} First Second = (a c prefix rest : List A) → First a → Second c → IsViable First prefix → a ++ c ≡ prefix ++ rest → IsPrefix prefix a
 
@@ -146,7 +146,7 @@ not_in-joined First Second s prefix rest prefix' rest' apart cut cut' absent h =
 
 -- ---- when two sets are apart
 
--- the element stands nowhere in the list
+-- the element is not in the list
 abbrev pub Lacks : {A : Type 0} → A → List A → Type 0
 Lacks d [] = Unit {0}
 Lacks d (x ∷ xs) = (x ≡ d → ⊥) × Lacks d xs
@@ -159,7 +159,7 @@ lacks_not : {A : Type 0} (d : A) (a b : List A) → Lacks d (a ++ d ∷ b) → �
 lacks_not d [] b h = h.0 refl
 lacks_not d (x ∷ a) b h = lacks_not d a b h.1
 
--- it has a first element, and behind that one the element stands nowhere
+-- the list is not empty, and the element does not occur after its first place
 abbrev pub LacksBehind : {A : Type 0} → A → List A → Type 0
 LacksBehind d [] = ⊥
 LacksBehind d (x ∷ xs) = Lacks d xs
@@ -168,7 +168,7 @@ lacks_behind_not : {A : Type 0} (d : A) (a b : List A) → LacksBehind d a → L
 lacks_behind_not d [] b h h' = h
 lacks_behind_not d (x ∷ a) b h h' = lacks_not d a b h'
 
--- two ways to cut one list: the one is within the other, or it goes on into what is behind it
+-- two ways to cut one list: the one is within the other, or it goes on into what follows it
 pub record Longer {A : Type 0} (a b c : List A) : Type 0 where
   pub first : A
   pub more : List A
@@ -189,7 +189,7 @@ two_cuts (x ∷ a) c (y ∷ b) d e =
 first_same : {A : Type 0} (x y : A) (a b : List A) → x ∷ a ≡ y ∷ b → x ≡ y
 first_same x y a b e = cc
 
--- each list of the second set begins with a mark that stands in no list of the first, but as its first element
+-- each list of the second set begins with a mark that occurs in no list of the first, except as its first element
 pub apart-mark : {A : Type 0} (d : A) (First Second : List A → Type 0) → ((t : List A) → First t → LacksBehind d t) → ((t : List A) → Second t → (u : List A) × (t ≡ d ∷ u)) → Apart First Second
 apart-mark d First Second free marked a c prefix rest h h' viable e =
     elim (two_cuts a c prefix rest e) [
@@ -233,7 +233,7 @@ cut_by_mark x a c b d ha hb e =
 
 -- ---- one list, and a choice of two sets
 
--- the prefix of s that is one of the one list too, up to where they differ or end
+-- the prefix that s shares with the list, up to where they differ or end
 pub cut-word : (w s : List ℕ) (i : ℕ) → i ≤ length w → i ≤ length s → take i s ≡ take i w → (i < length s → i < length w → get_or s i 0 ≡ get_or w i 0 → ⊥) → IsCut (λ t. t ≡ w) s (take i s) (drop i s)
 cut-word w s i le le' same differs = record {
   whole = sym (take-append-drop i s);
@@ -286,7 +286,7 @@ not_in-either First Second s prefix rest unlike whole absent h = elim h [
   | inr other ↦ unlike_whole Second s prefix rest unlike whole other
 ]
 
--- ---- the same with whether the prefix is of the set
+-- ---- the same with whether the prefix is in the set
 
 pub same_one : {A : Type 0} (P Q : List A → Type 0) → ((t : List A) → P t → Q t) → ((t : List A) → Q t → P t) → (s prefix rest : List A) → IsCutAtOne P s prefix rest → IsCutAtOne Q s prefix rest
 same_one P Q to back s prefix rest h = record { one = to prefix h.one; cut = cut-same P Q to back s prefix rest h.cut }
@@ -324,7 +324,7 @@ either_short First Second s rest unlike h = record {
   cut = cut-either First Second s h.prefix rest unlike h.cut;
 }
 
--- nothing is left behind a list of the set, or the whole is none
+-- nothing is left after a list of the set, or the whole is not in the set
 pub not_one : {A : Type 0} (Set : List A → Type 0) (s prefix rest : List A) (x : A) (more : List A) → rest ≡ x ∷ more → IsCutAtOne Set s prefix rest → Set s → ⊥
 not_one Set s prefix rest x more e h full = reaches Set s prefix rest h.cut x more more e (subst Set (h.cut.whole ∙ ap (λ t. prefix ++ t) e) full)
 

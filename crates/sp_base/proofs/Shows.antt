@@ -1,4 +1,4 @@
--- What a text shows, met from its front.
+-- What a text shows, read from its front.
 use Rattle.std.proofs.Common.{◌≡◌, ◌≤◌, ◌<◌, ◌+◌, ◌^◌, ◌++◌, ℕ, zero, suc, true, false, cond, List, [], ◌∷◌, length, take, drop, refl, sym, ap, subst, ◌∙◌, append-nil, append_assoc, arith, inl, inr}
 use Rattle.std.specs.Int.{w64, to_be_bytes}
 use Rattle.std.proofs.lemmas.Bool.{le-leb, leb-true, eq-eqb, eqb-true, and_from, and_parts, cond-true, cond-false, cases_lt, cases_Bool}
@@ -56,7 +56,7 @@ bodies_in-frame max k b rest lt fit =
     ∙ ap (λ t. t ∷ bodies_in max k (drop (8 + size_of (frame b ++ rest)) (frame b ++ rest))) whole
     ∙ ap (λ t. b ∷ bodies_in max k t) after
 
--- whole messages at the front are the first that are found, with a budget that is long enough
+-- whole messages at the front are the first that are found, given a large enough bound
 bodies_in-frames : (max k : ℕ) (bs : List (List ℕ)) (rest : List ℕ) → max < 2 ^ 64 → Fit max bs → length (frames bs) ≤ k → (left : ℕ) × (bodies_in max k (frames bs ++ rest) ≡ bs ++ bodies_in max left rest) × (length bs ≤ k)
 unfolding frames
 bodies_in-frames max k [] rest lt fit long = (k, refl, omega arith)
@@ -79,7 +79,7 @@ starts-true (b ∷ prefix) (x ∷ s) e =
     let same : b ≡ x = eqb-true b x parts.0 in
     (more.0, ap (λ t. t ∷ s) (sym same) ∙ ap (λ t. b ∷ t) more.1)
 
--- **what is shown begins with the messages that were met from the front on**
+-- **what is shown begins with the messages that were read from the front**
 pub shows-prefix : (role max : ℕ) (bs : List (List ℕ)) (rest : List ℕ) → max < 2 ^ 64 → Fit max bs → IsPrefix bs (shows role max (text role bs ++ rest))
 unfolding shows
 shows-prefix role max bs rest lt fit =
@@ -89,7 +89,7 @@ shows-prefix role max bs rest lt fit =
     let found = bodies_in-frames max (length s) bs rest lt fit (omega (arith, length-append (text role bs) rest, length-append (hello role) (frames bs))) in
     (bodies_in max found.0 rest, cond-true (greets role s) _ [] is_so ∙ ap (λ t. bodies_in max (length s) t) (ap (drop 8) regroup) ∙ found.1)
 
--- ---- what is found stands there
+-- ---- what is found is there
 
 begins-parts : (max : ℕ) (s : List ℕ) → begins max s ≡ true → (8 ≤ length s) × (size_of s ≤ max) × (8 + size_of s ≤ length s)
 begins-parts max s e =
@@ -97,14 +97,14 @@ begins-parts max s e =
     let q = and_parts _ _ p.1 in
     (leb-true _ _ p.0, leb-true _ _ q.0, leb-true _ _ q.1)
 
--- a prefix that is no whole message of a size that is allowed
+-- a prefix that is not a whole message of an allowed size
 pub begins-false : (max : ℕ) (s : List ℕ) → ((8 ≤ length s) × (size_of s ≤ max) × (8 + size_of s ≤ length s) → ⊥) → begins max s ≡ false
 begins-false max s h = elim (cases_Bool (begins max s)) [
   | inl is_so ↦ absurd (h (begins-parts max s is_so))
   | inr not_so ↦ not_so
 ]
 
--- **messages that were met from the front on, and then none that is whole, are all that is shown**
+-- **messages that were read from the front, followed by none that is whole, are all that is shown**
 pub shows-rest : (role max : ℕ) (bs : List (List ℕ)) (rest : List ℕ) → max < 2 ^ 64 → Fit max bs → begins max rest ≡ false → shows role max (text role bs ++ rest) ≡ bs
 unfolding shows
 shows-rest role max bs rest lt fit part =

@@ -30,11 +30,11 @@ IsBytes s = (i : ℕ) → slice_index s i < 256
 abbrev pub size_of : List ℕ → ℕ
 size_of s = from_be_bytes w64 (take 8 s)
 
--- a whole message of at most max bytes stands at the front
+-- a whole message of at most max bytes is at the front
 abbrev pub begins : ℕ → List ℕ → Bool
 begins max s = nat_le 8 (length s) && (nat_le (size_of s) max && nat_le (8 + size_of s) (length s))
 
--- the bodies of the whole messages from the front on, at most so many
+-- the bodies of the whole messages from the front on, at most k of them
 unfoldable pub bodies_in : ℕ → ℕ → List ℕ → List (List ℕ)
 bodies_in max zero s = []
 bodies_in max (suc k) s = if begins max s then take (size_of s) (drop 8 s) ∷ bodies_in max k (drop (8 + size_of s) s) else []
@@ -49,11 +49,12 @@ starts (b ∷ prefix) (x ∷ s) = b == x && starts prefix s
 abbrev pub greets : ℕ → List ℕ → Bool
 greets role s = starts (hello role) s
 
--- what s shows: the bodies of its whole messages behind the greeting, up to the first that is above max or cut short
+-- what s shows: the bodies of its whole messages after the greeting, up to the first that is longer than max or cut
+-- short
 unfoldable pub shows : ℕ → ℕ → List ℕ → List (List ℕ)
 shows role max s = if greets role s then bodies_in max (length s) (drop 8 s) else []
 
--- in one sentence: the longest list of bodies that fit and whose text is a prefix of s; empty where there is none
+-- the longest list of bodies that fit and whose text is a prefix of s; empty where there is none
 pub record IsLongest (role max : ℕ) (s : List ℕ) (bodies : List (List ℕ)) : Type 0 where
   pub fit : Fit max bodies
   pub shown : IsPrefix (text role bodies) s ⊎ (bodies ≡ [])

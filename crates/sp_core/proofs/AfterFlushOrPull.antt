@@ -35,7 +35,7 @@ use Rattle.core_state.proofs.Tallying.{same_tally}
 
 -- ---- What may come next
 
--- an entry that comes directly after another of the turn
+-- an entry that comes directly after another one of the turn
 one_after : (t : Moment) (d e : Entry) → Lawful (also t d) → Allowed t.z t.caller (past (also t d)) e → Lawful (also (also t d) e)
 one_after t d e l a = record { history = l.history; legal = l.legal; before = l.before; turn = (a, l.turn); starts = l.starts }
 
@@ -148,7 +148,7 @@ module _ {W : Type 0} (shown : W → WireView) where
   pub room_down : (l : Pipes W) (t : Moment) (i p : ℕ) → PipesStand shown l t → IsPipeAt l i p → length l.down.items < deque_capacity l.down
   room_down l t i p h there = let some = (place_counted l t i p h there).counted in omega (arith, h.down_room, h.count_is, some)
 
-  -- the pipe goes down for what its wire need not show, and the pipes stay so
+  -- the pipe goes down for a cause that its wire need not show, and the pipes stay valid
   pub goes_down_on : (l m n : Pipes W) (t : Moment) (i p : ℕ) (found why : Why) → found ≡ why → Lawful t → PipesStand shown l t → IsPipeAt l i p → ((w : WireView) → ShowsWhy t.z (past t) p why w) → EmptiesPlace i found l m → n ≡ m → PipesStand shown n (also t (Down p why))
   goes_down_on l m n t i p found why e lawful h there shows empties same =
       let x = placed l i p there in

@@ -37,7 +37,7 @@ may closed t c act h open_ told = record { open_ = h ∙ open_; supported = told
 
 -- ---- A slot is drawn
 
--- a drawn slot that is worn is let go
+-- a worn slot that was drawn is dropped
 pub dropped : (s : Operations) (t : Moment) (slot : ℕ) → OperationsStand (slot ∷ []) s t → IsWornOut (begins (past t) slot) → OperationsStand [] s t
 dropped s t slot h w =
     record {
@@ -59,7 +59,7 @@ dropped s t slot h w =
     go i false e k = k
 
 module _ {P W : Type 0} (ties : P → Moment → Type 0) (room : P → ℕ) (shown : W → WireView) where
-  -- the core has other lists of operations, with so many slots more that are drawn
+  -- the core has other lists of operations, with `drawn` as the slots that are drawn
   pub with_operations : (drawn : List ℕ) (c : Core P W) (s : Operations) (t : Moment) → Owns ties room shown [] c t → OperationsStand drawn s t → length drawn + length s.free.items ≤ length c.operations.free.items → done_count s ≡ done_count c.operations
       → Owns ties room shown drawn (record c { operations = s }) t
   with_operations drawn c s t g h f d =
@@ -134,12 +134,12 @@ module _ {P W : Type 0} (ties : P → Moment → Type 0) (room : P → ℕ) (sho
 
 -- ---- A new core
 
--- what an Ok told
+-- what an `Ok` implies
 pub was_ok : {A E : Type 0} (r : Result A E) (Q : Type 0) → false ≡ is_err r → OnOk r Q → Q
 was_ok (Ok x) Q e h = h
 was_ok (Err x) Q e h = absurd cc
 
--- what an Err told
+-- what an `Err` implies
 pub was_err : {A E : Type 0} (r : Result A E) (Q : Type 0) → true ≡ is_err r → OnErr r Q → Q
 was_err (Ok x) Q e h = absurd cc
 was_err (Err x) Q e h = h
@@ -166,6 +166,6 @@ module _ {P W : Type 0} (ties : P → Moment → Type 0) (room : P → ℕ) (sho
             };
       }
 
--- a machine that stands for the empty history of a kind is of that kind
+-- a machine that stands for the empty history of a kind has that kind
 pub starts_as : {M : Type 0} (ties : M → Moment → Type 0) (kind : M → Kind) (kinds : (m : M) (t : Moment) → ties m t → kind_of t.z ≡ kind m) (m : M) (k : Kind) → Starts ties m k → Starts ties m (kind m)
 starts_as ties kind kinds m k s = subst (λ (x : Kind). Starts ties m x) (kinds m (start (setting_of k 0 0) 0) (s 0 0 0)) s

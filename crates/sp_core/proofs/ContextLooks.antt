@@ -102,7 +102,7 @@ pub looks_step : (x : PendingOperation) (rest : List PendingOperation) (c : ℕ)
 looks_step x rest c t u v before after old mid new l (inl f) = looks_on x rest c t u v old mid new l f.0 f.2
 looks_step x rest c t u v before after old mid new l (inr f) = looks_ended x rest c t u v old mid new l f.1 f.2.0 f.2.1
 
--- what is left of the line, and the next one in it
+-- what is left of the list, and the next one in it
 pub line_then : (x : PendingOperation) (c : ℕ) (t u : Moment) (before after : Operations) (old new : List word.ShownOperation) (s : Step x (bucket_items c before.pending)) → FoundOf x c t u before after old new
     → (left_of (behind x.op (bucket_items c before.pending)) (bucket_items c after.pending) ≡ s.rest) × IsNextIn (behind x.op (bucket_items c before.pending)) (bucket_items c after.pending)
 line_then x c t u before after old new s (inl f) =

@@ -91,7 +91,7 @@ module _ {P W : Type 0} (ties : P → Moment → Type 0) (room : P → ℕ) (sho
   pub enough_room : (c : Core P W) (t : Moment) (spare : ℕ) → Owns ties room shown [] c t → c.op_words.words.slots ≤ spare → c.operations.deadlines.schedule.slots ≤ spare
   enough_room c t spare g h = omega (arith, h, g.op_words.slots_are, ap (λ (v : Schedule). v.slots) g.operations.deadlines_are)
 
-  -- where the core stands after the tick
+  -- what the core stands for after the tick
   pub standing : (c : Core P W) (t : Moment) (at : ℕ) (old new : List OpName) (b : Bool) → Ticks b (Owns ties room shown [] c) t at old new → (u : Moment) × Owns ties room shown [] c u
   standing c t at old new true h = (t, h.0)
   standing c t at old new false h = (also t (Tick at (due_at (past t) at)), h.0)

@@ -21,7 +21,7 @@ use Rattle.sp_core.proofs.Flooded as flooded
 use Rattle.sp_core.proofs.MomentSteps.{down_lawful, went_down}
 
 module _ {P W : Type 0} (ties : P → Moment → Type 0) (room left : P → ℕ) (copies : P → OpName → ℕ) (shown : W → WireView) (c d : Core P W) (l : Pipes W) (t : Moment) (p : ℕ) (why : Why) where
-  -- while nothing is owed
+  -- at a calm moment
   pub owns_down : Owns ties room shown [] c t → has (up (past t)) p ≡ true → why ≢ whys.Closed → PipesStand shown l (also t (Down p why)) → NotesDown ties room left copies p (record c { pipes = l }) d → Owns ties room shown [] d (also t (Down p why))
   owns_down g u n li k =
       went_down ties room shown c d t p why g u n (k.proto t why (down_lawful t p why g.lawful g.calm u) g.proto) k.has_room (subst (λ (x : Pipes W). PipesStand shown x (also t (Down p why))) (sym k.pipes) li) (k.tally t why g.tally) k.op_words k.operations k.closed

@@ -17,7 +17,7 @@ use Rattle.sp_core.proofs.Flooded as flooded
 use Rattle.sp_core.proofs.MomentSteps.{full_lawful, found_full}
 
 module _ {P W : Type 0} (ties : P → Moment → Type 0) (room left : P → ℕ) (copies : P → OpName → ℕ) (shown : W → WireView) (c d : Core P W) (l : Pipes W) (t : Moment) (p : ℕ) where
-  -- while nothing is owed
+  -- at a calm moment
   pub owns_full : Owns ties room shown [] c t → has (up (past t)) p ≡ true → PipesStand shown l (also t (Full p)) → NotesFull ties room left copies p (record c { pipes = l }) d → Owns ties room shown [] d (also t (Full p))
   owns_full g u li k =
       found_full ties room shown c d t p g u (k.proto t tt (full_lawful t p g.lawful g.calm u) g.proto) k.has_room (subst (λ (x : Pipes W). PipesStand shown x (also t (Full p))) (sym k.pipes) li) (k.tally t tt g.tally) k.op_words k.operations k.closed

@@ -22,7 +22,7 @@ use Rattle.sp_core.proofs.Closings.{end_lawful, ends_one}
 use Rattle.sp_core.proofs.MomentSteps.{ended, may_end, callers_end, callers_open}
 
 module _ {P W : Type 0} (ties : P → Moment → Type 0) (room left : P → ℕ) (shown : W → WireView) (c d : Core P W) (w : OpWords) (t : Moment) (op : OpName) (s : Begun) (cause : Cause) (by : ℕ) where
-  -- while nothing is owed: less is left to be done
+  -- at a calm moment: less is left to be done
   pub owns_gone : Owns ties room shown [] c t → pending (past t) op ≡ Some s → MayGo t.z (past t) s cause by → cause ≢ Closed → OpWordsStand w (also t (End op (Gone cause by))) → NotesEnd ties room left op cause by (record c { op_words = w }) d → Owns ties room shown [] d (also t (End op (Gone cause by))) × (left d.proto < left c.proto)
   owns_gone g p m n h k =
       let a = k.ended t s g.lawful (may_end t op s (Gone cause by) g.lawful g.calm p m) g.proto g.operations p in

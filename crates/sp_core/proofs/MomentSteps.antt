@@ -52,12 +52,12 @@ or_true : (a : Bool) → (a || true) ≡ true
 or_true true = refl
 or_true false = refl
 
--- nothing is owed: any entry goes on
+-- at a calm moment any entry is allowed
 pub goes : (z : Setting) (before : List Entry) (e : Entry) → Calm z before → goes_on z before e ≡ true
 goes z (Unkept p ∷ before) e h = let u : true ≡ false = h.unkept_gone in absurd cc
 goes z before e h = or_left (not (unclaimed z before)) (is_part_of_send z e) (ap not h.outs_claimed)
 
--- what is pending, or up, says that the socket is open
+-- where an operation is pending or a pipe is up, the socket is open
 pub pending_open : (t : Moment) (op : OpName) (s : Begun) (e : Entry) → Lawful t → pending (past t) op ≡ Some s → IsTrue (is_closed (past t)) → IsTrue (comes_after_close e)
 pending_open t op s e l p c = let none = closed_none t l c in let k : None ≡ Some s = rw none at p in absurd cc
 
@@ -75,7 +75,7 @@ may_end t op s ending l calm p m =
       itself = rw p m;
     }) refl
 
--- no context is shut by it, nor the socket
+-- it shuts no context, nor the socket
 abbrev pub IsOfTurn : Ending → Type 0
 IsOfTurn (Won r) = Unit {0}
 IsOfTurn (Gone cause by) = cause ≢ Closed
@@ -105,7 +105,7 @@ calm_ended z op ending before h calm =
       closed_all = calm.closed_all;
     }
 
--- a caller's end may stand
+-- a caller's end is allowed
 pub callers_end : (t : Moment) (s : Begun) (cause : Cause) (by : ℕ) → IsCallers cause → 1 ≤ by → by ≤ t.z.callers → MayGo t.z (past t) s cause by
 callers_end t s Cancelled by h a b = (a, b)
 callers_end t s TimedOut by h a b = (a, b)
@@ -175,7 +175,7 @@ module _ {P W : Type 0} (ties : P → Moment → Type 0) (room : P → ℕ) (sho
         room_is = omega (arith, ro);
       }
 
-  -- the machine alone has changed, and stands for the same moment
+  -- only the machine has changed, and stands for the same moment
   pub with_proto : (drawn : List ℕ) (c : Core P W) (p : P) (t : Moment) → Owns ties room shown drawn c t → ties p t → room c.proto ≤ room p → Owns ties room shown drawn (record c { proto = p }) t
   with_proto drawn c p t g h r =
       record {
@@ -209,7 +209,7 @@ pub later-trans : (t u v : Moment) → Later t u → Later u v → Later t v
 later-trans t u v a b =
     (b.0 ++ a.0, settling-append b.0 a.0 b.1 a.1, b.2 ∙ ap (λ (x : Moment). with_entries x b.0) a.2 ∙ ap (λ xs. record { z = t.z; caller = t.caller; before = t.before; turn = xs }) (sym (append_assoc b.0 a.0 t.turn)))
 
--- ---- What an operation hands back
+-- ---- What an operation returns
 
 pub back_is : (act : RecordedAct) (r : Option MessageView) → option_map text_of r ≡ message_of act → r ≡ back_of act
 back_is Recv None h = refl
@@ -230,7 +230,7 @@ same_bytes-refl (x ∷ xs) = let same : nat_eq x x ≡ true = grind (arith, nat_
 sent_here : (t : Moment) (op : OpName) (p : ℕ) (s : Begun) (b : List ℕ) → CanSend t op p s b → is_sent t.z (Out p b ∷ past t) s ≡ true
 sent_here t op p s b k = rw (k.one_target, k.target, k.bytes, same_bytes-refl b, k.first) refl
 
--- what has a target is a send
+-- only a send has a target
 is_a_send : (z : Setting) (before : List Entry) (op : OpName) (act : RecordedAct) (p : ℕ) → has (targets_of z before op act) p ≡ true → not (is_recv act) ≡ true
 is_a_send z before op Recv p h = cc
 is_a_send z before op (Send m) p h = refl
@@ -265,12 +265,12 @@ not_closing z p whys.Closed before n = absurd (n refl)
 not_closing z p whys.NoMemory before n = refl
 
 module _ {P W : Type 0} (ties : P → Moment → Type 0) (room : P → ℕ) (shown : W → WireView) where
-  -- the words alone have changed, and go with the same moment
+  -- only the words have changed, and stand for the same moment
   pub with_op_words : (drawn : List ℕ) (c : Core P W) (d : OpWords) (t : Moment) → Owns ties room shown drawn c t → OpWordsStand d t → Owns ties room shown drawn (record c { op_words = d }) t
   with_op_words drawn c d t g h =
       record { lawful = g.lawful; calm = g.calm; proto = g.proto; op_words = h; operations = g.operations; pipes = g.pipes; tally = g.tally; closed = g.closed; room_is = g.room_is }
 
-  -- so have the pipes alone
+  -- only the pipes have changed
   pub with_pipes : (drawn : List ℕ) (c : Core P W) (l : Pipes W) (t : Moment) → Owns ties room shown drawn c t → PipesStand shown l t → Owns ties room shown drawn (record c { pipes = l }) t
   with_pipes drawn c l t g h =
       record { lawful = g.lawful; calm = g.calm; proto = g.proto; op_words = g.op_words; operations = g.operations; pipes = h; tally = g.tally; closed = g.closed; room_is = g.room_is }
@@ -327,6 +327,6 @@ pub none_left : (r : Option MessageView) (P : MessageView → Type 0) → MatchO
 none_left None P h n = h
 none_left (Some m) P h n = n m refl
 
--- the decision is that of a caller
+-- the decision is a caller's
 pub is_gone : (made : Decision) (cause : Cause) (by : ℕ) (op : OpName) (t : Moment) (d : OpWords) → made ≡ decision.Gone cause by → DecidedAs made op t d → DecidedAs (decision.Gone cause by) op t d
 is_gone made cause by op t d e h = subst (λ (x : Decision). DecidedAs x op t d) e h

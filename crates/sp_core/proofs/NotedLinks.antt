@@ -1,4 +1,4 @@
--- A link is met or given back, or a wire is taken: the protocol isn't told, and the core has no operation more or less.
+-- A link is met or given back, or a wire is taken: the protocol isn't told, and the core's operations are the same.
 use Rattle.std.proofs.Common.{◌≡◌, refl, List, ◌∷◌, [], ℕ, true}
 use Rattle.std.specs.Prelude.{⊤}
 use Rattle.sp_msg.specs.Views.{WireView}
@@ -87,7 +87,7 @@ tally_noted c t (NoUp place miss) n h = same_tally c t (NoUp place miss) refl re
 tally_noted c t (Taken p) n h = same_tally c t (Taken p) refl refl refl refl refl refl h
 tally_noted c t _ n h = absurd n
 
--- the pipes do where no wire is taken
+-- the pipes stay as they are where no wire is taken
 link_note : (e : Entry) → IsOfLinks e → IsNote e
 link_note (Met place) n = tt
 link_note (NoUp place miss) n = tt
@@ -125,7 +125,7 @@ module _ {W : Type 0} (shown : W → WireView) where
 -- ---- The core
 
 module _ {P W : Type 0} (ties : P → Moment → Type 0) (room : P → ℕ) (shown : W → WireView) (silent : (m : P) (t : Moment) (e : Entry) → IsSilent e → Lawful (also t e) → ties m t → ties m (also t e)) where
-  -- with these pipes
+  -- the same with these pipes
   pub noted : (c : Core P W) (l : Pipes W) (t : Moment) (e : Entry) → IsNote e → MayCome t.z t.caller (past t) e → Owns ties room shown [] c t → PipesStand shown l (also t e) → Owns ties room shown [] (record c { pipes = l }) (also t e)
   noted c l t e n m g li = record {
     lawful = note_lawful t e g.lawful g.calm n m;
@@ -139,6 +139,6 @@ module _ {P W : Type 0} (ties : P → Moment → Type 0) (room : P → ℕ) (sho
     room_is = g.room_is;
   }
 
-  -- of a link, with the same pipes
+  -- for a link, with the same pipes
   pub link_noted : (c : Core P W) (t : Moment) (e : Entry) → IsOfLinks e → Owns ties room shown [] c t → Owns ties room shown [] c (also t e)
   link_noted c t e n g = noted c c.pipes t e (link_note e n) (link_comes t.z t.caller (past t) e n) g (pipes_noted shown c.pipes t e n g.pipes)

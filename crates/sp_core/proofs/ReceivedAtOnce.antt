@@ -214,11 +214,11 @@ slot_left t op n all = elim (all op.slot n.inside) [
 ]
 
 module _ {P W : Type 0} (ties : P → Moment → Type 0) (room : P → ℕ) (shown : W → WireView) where
-  -- the slot that was drawn goes back
+  -- the slot that was drawn is returned
   pub goes_back : (c : Core P W) (s : Operations) (slot : ℕ) (t : Moment) → Owns ties room shown (slot ∷ []) c t → OperationsStand [] s t → (length s.free.items ≡ length c.operations.free.items + 1) × (done_count s ≡ done_count c.operations) → Owns ties room shown [] (record c { operations = s }) t
   goes_back c s slot t g sh same = record { lawful = g.lawful; calm = g.calm; proto = g.proto; op_words = g.op_words; operations = sh; pipes = g.pipes; tally = g.tally; closed = g.closed; room_is = omega (arith, g.room_is, same.0, same.1) }
 
--- ---- What it came to
+-- ---- Its outcome
 
 none_at : (i : ℕ) (es : List OperationEnd) (e : OperationEnd) → ended_at i es ≡ 0 → Stands e es → is_at i e.begun ≡ true → ⊥
 none_at i [] e n s h = s

@@ -1,4 +1,4 @@
--- The pipes are served one after the other.
+-- The pipes are served one after another.
 use Rattle.std.proofs.Common.{◌≡◌, refl, ap, sym, ◌∙◌, subst, List, [], ℕ, ◌+◌, ◌<◌, ◌≤◌, Bool, true, false, arith}
 use Rattle.std.specs.Prelude.{◌==◌, nat_lt}
 use Rattle.std.proofs.lemmas.Bool.Decides.{nat_tests}
@@ -45,7 +45,7 @@ most_still p q t u was now other = go (p == q) refl
     go true e = subst (λ (x : ℕ). AreFew x u.turn) (equal_numbers p q e) now
     go false e = few_still q t.turn u.turn was (other e)
 
--- a pipe that is up after a visit was so, and is another one where the visited pipe went down
+-- a pipe that is up after a visit was up before it, and is another one where the visited pipe went down
 up_before : (stays : Bool) (xs : List ℕ) (p q : ℕ) → has (ups_after stays xs p) q ≡ true → (has xs q ≡ true) × ((p == q) ≡ true → stays ≡ true)
 up_before true xs p q h = (h, λ e. refl)
 up_before false xs p q h = let k = without-left xs p q h in (k.0, λ e. absurd cc)

@@ -1,4 +1,4 @@
--- What one step of settling came to.
+-- The result of one step of settling.
 use Rattle.std.proofs.Common.{◌≡◌, ℕ, Bool, true, false, []}
 use Rattle.sp_msg.specs.Views.{WireView}
 use Rattle.sp_history.specs.Moments.{Moment}

@@ -1,4 +1,4 @@
--- A receive is begun, given and taken in one turn: what its three steps come to.
+-- A receive is begun, given and taken in one turn: the results of its three steps.
 use Rattle.std.proofs.Common.{◌≡◌, refl, ap, ◌∙◌, [], ◌∷◌, ℕ, true, false, Some, None}
 use Rattle.sp_base.specs.declared.OpName.{OpName}
 use Rattle.sp_msg.specs.Views.{WireView}
@@ -27,7 +27,7 @@ use Rattle.sp_core.proofs.UncollectedOperations.{ended_now}
 use Rattle.sp_core.proofs.ReceivedAtOnce.{can_now, now_begun, open_now, the_last}
 
 module _ {P W : Type 0} (ties : P → Moment → Type 0) (room : P → ℕ) (shown : W → WireView) (op : OpName) (c : ℕ) where
-  -- with the begin
+  -- with the entry of the begin
   abbrev pub begun : Moment → Moment
   begun t = also t (Begin op t.caller c Recv None)
 
@@ -43,7 +43,7 @@ module _ {P W : Type 0} (ties : P → Moment → Type 0) (room : P → ℕ) (sho
     pub owns : Owns ties room shown [] x (begun t)
     pub can : CanGive (begun t) op (now_begun op c) message
 
-  -- it has ended so, and was not collected
+  -- it has ended with `ending`, and was not collected
   pub record GivenNow (x : Core P W) (t : Moment) : Type 0 where
     pub message : Text
     pub ending : Ending

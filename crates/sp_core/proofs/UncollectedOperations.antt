@@ -1,4 +1,4 @@
--- What the history says of an operation that its caller began and that was not collected.
+-- What the history says about an operation that its caller began and did not collect.
 use Rattle.std.proofs.Common.{◌≡◌, refl, ap, sym, ◌∙◌, subst, List, [], ◌∷◌, ◌++◌, ℕ, ◌+◌, ◌<◌, ◌≤◌, Bool, true, false, cond, arith, Option, Some, inl, inr}
 use Rattle.std.specs.Prelude.{filter, not, ◌||◌, ◌⊎◌}
 use Rattle.std.specs.List.{list_any}
@@ -24,7 +24,7 @@ use Rattle.core_state.proofs.Lawfuls.{by_steps, counted}
 use Rattle.core_state.proofs.PendingEnds.{find-named, find-occurs}
 use Rattle.core_state.proofs.Elements.{stands-more, contains, Every, every-append, every-filter, every-one, find-stands}
 
--- ---- Begins and ends stand in the history
+-- ---- Begins and ends are in the history
 
 abbrev Began : List Entry → Begun → Type 0
 Began before s = (k : ℕ) × (d : Option ℕ) × Stands (Begin s.op k s.ctx s.act d) before

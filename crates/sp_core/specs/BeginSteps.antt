@@ -27,7 +27,7 @@ abbrev pub OpensTurn : {P W : Type 0} → (P → Moment → Type 0) → (P → �
 OpensTurn ties room shown k c kind old new =
     KeepsWords old new ((h : List (Turn Entry)) → StandsFor ties room shown old h → (t : Moment) × AreSettling t.turn × IsSettled t × (t.z ≡ core_setting kind old) × Turns ties room shown [] new h k t × HasLooked c (past_of h) t.turn (reads_of old) (reads_of new))
 
--- whether the operation may begin, or why not
+-- the operation may begin, or why not
 abbrev pub TellsMayBegin : {P W : Type 0} → (P → Moment → Type 0) → (P → ℕ) → (W → WireView) → Result (Unit {0}) BeginError → ℕ → Verb → Core P W → Type 0
 TellsMayBegin ties room shown r c verb x =
     (t : Moment) (act : RecordedActType) → Owns ties room shown [] x t → verb_of act ≡ verb → MatchResult r (λ _. CanBegin t c act) (λ e. RefusedFor e t.z (past t) c act × (e ≢ begin_error.NoMemory))
@@ -36,7 +36,7 @@ TellsMayBegin ties room shown r c verb x =
 abbrev pub MayDraw : {P W : Type 0} → Core P W → Type 0
 MayDraw old = (t : Moment) × OpWordsStand old.op_words t × OperationsStand [] old.operations t
 
--- a free slot is drawn for an operation that may begin, or why not
+-- a free slot is drawn for an operation that may begin, or the reason why not
 abbrev pub DrawsFor : {P W : Type 0} → (P → Moment → Type 0) → (P → ℕ) → (W → WireView) → Result OpName BeginError → ℕ → Verb → Core P W → Core P W → Type 0
 DrawsFor ties room shown r c verb old new =
     KeepsReads old new ((t : Moment) (act : RecordedActType) → Owns ties room shown [] old t → verb_of act ≡ verb → MatchResult r (λ op. Owns ties room shown (op.slot ∷ []) new t × IsNext t op × CanBegin t c act) (λ e. Owns ties room shown [] new t × RefusedFor e t.z (past t) c act × (e ≢ begin_error.NoMemory)))
@@ -45,7 +45,7 @@ DrawsFor ties room shown r c verb old new =
 abbrev pub MayPutBack : {P W : Type 0} → Core P W → OpName → Type 0
 MayPutBack new op = (t : Moment) × OperationsStand (op.slot ∷ []) new.operations t
 
--- a free slot is drawn, or every one is taken
+-- a free slot is drawn, or all are taken
 abbrev pub DrawsSlot : {P W : Type 0} → (P → Moment → Type 0) → (P → ℕ) → (W → WireView) → Option OpName → Core P W → Core P W → Type 0
 DrawsSlot ties room shown r old new =
     KeepsReads old new ((t : Moment) → Owns ties room shown [] old t → MatchOption r (Owns ties room shown [] new t × AllTaken t.z (past t)) (λ op. Owns ties room shown (op.slot ∷ []) new t × IsNext t op))

@@ -33,7 +33,7 @@ use Rattle.core_state.specs.Wires.{numbers_of}
 
 -- ---- Turns
 
--- one of the core's callers, which have the numbers from 1
+-- one of the core's callers, whose numbers start at 1
 abbrev pub IsCallerOf : {P W : Type 0} → Core P W → ℕ → Type 0
 IsCallerOf c k = (1 ≤ k) × (k ≤ callers_of c)
 
@@ -45,28 +45,28 @@ MayTakeTurn stands c k = ((h : List (Turn Entry)) × stands c h) × IsCallerOf c
 abbrev pub MayCollect : {P W : Type 0} → (Core P W → List (Turn Entry) → Type 0) → Core P W → ℕ → OpName → Type 0
 MayCollect stands c k op = ((h : List (Turn Entry)) × stands c h × IsOpen k op h) × IsCallerOf c k
 
--- what `TakesTurn` says, of the histories of which this is so
+-- what `TakesTurn` says, for the histories that satisfy this
 abbrev pub TakesTurnWhere : {P W : Type 0} → (Core P W → List (Turn Entry) → Type 0) → Core P W → Core P W → ℕ → (List (Turn Entry) → Type 0) → (List (Turn Entry) → Turn Entry → Type 0) → Type 0
 TakesTurnWhere stands old new k holds says =
     (h : List (Turn Entry)) → stands old h → holds h → HasTurnMore stands new k says h
 
--- what no turn changes: the setting, and which words are the core's
+-- what no turn changes: the setting, and the core's own words
 abbrev pub core_label : {P W : Type 0} → (P → Kind) → Core P W → CoreLabel
 core_label kind c = record { setting = core_setting kind c; words = (words_of c).id }
 
--- the call is one turn of this caller, of which this is said
+-- the call is one turn of this caller, of which `says` holds
 pub record TakesOneTurn {P W : Type 0} (stands : Core P W → List (Turn Entry) → Type 0) (kind : P → Kind) (old new : Core P W) (k : ℕ) (says : Setting → List (Turn Entry) → Turn Entry → Type 0) : Type 0 where
   pub turn : TakesTurn stands old new k (says (core_setting kind old))
   pub label : core_label kind new ≡ core_label kind old
 
--- ---- What a call says of its turn, by the setting and after the history before it
+-- ---- What a call states of its turn, by the setting and the history before it
 
 -- a receive began or was refused, and the core has looked at the context
 abbrev pub BeginsRecv : {P W : Type 0} → Result OpName BeginError → ℕ → ℕ → Option ℕ → Core P W → Core P W → Setting → List (Turn Entry) → Turn Entry → Type 0
 BeginsRecv r k c deadline old new z h t =
     BeganBy r z h t k c Recv deadline × HasLooked c (past_of h) t.entries (reads_of old) (reads_of new)
 
--- the same of a send
+-- the same for a send
 abbrev pub BeginsSend : {P W : Type 0} → Result OpName (BeginError × MessageView) → ℕ → ℕ → MessageView → Option ℕ → Core P W → Core P W → Setting → List (Turn Entry) → Turn Entry → Type 0
 BeginsSend r k c m deadline old new z h t =
     BeganBy (began r) z h t k c (Send (text_of m)) deadline × HasLooked c (past_of h) t.entries (reads_of old) (reads_of new)
@@ -80,7 +80,7 @@ ReceivesNow r k c old new z h t =
 abbrev pub AttachesWire : {W : Type 0} → (W → WireView) → Result ℕ (AttachError × W) → W → ℕ → Setting → List (Turn Entry) → Turn Entry → Type 0
 AttachesWire shown r w place z h t = AttachedBy (attached r) z h t place (numbers_of (shown w).name)
 
--- each pipe was flushed and swept, and these are the counts of what came of it
+-- each pipe was flushed and swept, and the result has the counts
 abbrev pub ServesPipes : Served → Setting → List (Turn Entry) → Turn Entry → Type 0
 ServesPipes r z h t =
     IsSwept z (past_of h) t × AreFlushed (past_of h) t × IsServeTurn t × ServedBy r t × (r.up ≡ length (up (past_of (h ++ t ∷ []))))
@@ -89,17 +89,17 @@ ServesPipes r z h t =
 abbrev pub ClosesCtx : Result (Unit {0}) CtxError → ℕ → Setting → List (Turn Entry) → Turn Entry → Type 0
 ClosesCtx r c z h t = ShutBy r z h t c
 
--- the topic was put on, or why not
+-- the context was subscribed to the topic, or why not
 abbrev pub Subscribes : Result (Unit {0}) TopicError → ℕ → List ℕ → Setting → List (Turn Entry) → Turn Entry → Type 0
 Subscribes r c b z h t = SubscribedBy r z h t c b
 
--- the topic was taken off, or why not
+-- the context was unsubscribed from the topic, or why not
 abbrev pub Unsubscribes : Result (Unit {0}) TopicError → ℕ → List ℕ → Setting → List (Turn Entry) → Turn Entry → Type 0
 Unsubscribes r c b z h t = UnsubscribedBy r z h t c b
 
 -- ---- The end
 
--- of a closed core, the wires that were not taken
+-- the wires of a closed core that were not taken
 abbrev pub HandsOutWires : {P W : Type 0} → (P → Moment → Type 0) → (P → ℕ) → (W → WireView) → List (DownPipe W) → (P → Kind) → Core P W → Type 0
 HandsOutWires ties room shown r kind x =
     (h : List (Turn Entry)) → StandsFor ties room shown x h → is_closed (past_of h) ≡ true → HasWires shown r (core_setting kind x) (past_of h)

@@ -60,7 +60,7 @@ abbrev pub NotesFound : {P W : Type 0} → (P → Moment → Type 0) → (P → 
 NotesFound ties room shown op old new =
     KeepsWords old new ((t : Moment) (s : Begun) → Owns ties room shown [] old t → pending (past t) op ≡ Some s → (ending : Ending) × Owns ties room shown [] new (also t (End op ending)))
 
--- what the operation came to is taken
+-- the outcome of the operation is taken
 abbrev pub TakesEnded : {P W : Type 0} → (P → Moment → Type 0) → (P → ℕ) → (W → WireView) → Outcome → OpName → Core P W → Core P W → Type 0
 TakesEnded ties room shown r op old new =
     KeepsReads old new ((t : Moment) → Owns ties room shown [] old t → IsOpenBefore t.caller op (past t) → is_uncollected (past t) op ≡ true → Owns ties room shown [] new (also t (Took op t.caller)) × ((e : OperationEnd) × IsOutcomeOf e op (past t) r))

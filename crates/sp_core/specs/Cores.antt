@@ -13,11 +13,11 @@ use Rattle.sp_core.specs.declared.owner.Core.{Core}
 abbrev pub words_of : {P W : Type 0} → Core P W → Named
 words_of c = c.op_words.words
 
--- how many slots it has
+-- the number of its slots
 abbrev pub slots_of : {P W : Type 0} → Core P W → ℕ
 slots_of c = c.op_words.words.slots
 
--- how many callers it has
+-- the number of its callers
 abbrev pub callers_of : {P W : Type 0} → Core P W → ℕ
 callers_of c = c.op_words.words.callers
 
@@ -41,15 +41,15 @@ pipes_of c = c.pipes
 abbrev pub up_of : {P W : Type 0} → Core P W → List (UpPipe W)
 up_of c = up_pipes c.pipes
 
--- how many contexts were opened
+-- the number of contexts that were opened
 abbrev pub opened_of : {P W : Type 0} → Core P W → ℕ
 opened_of c = c.tally.opened
 
--- how many contexts are open
+-- the number of contexts that are open
 abbrev pub open_ctxs_of : {P W : Type 0} → Core P W → ℕ
 open_ctxs_of c = c.tally.open_ctxs
 
--- whether it is closed
+-- it is closed
 abbrev pub is_core_closed : {P W : Type 0} → Core P W → Bool
 is_core_closed c = c.closed
 

@@ -20,7 +20,7 @@ abbrev pub OpensOne : {P W : Type 0} → (P → Moment → Type 0) → (P → �
 OpensOne ties room shown r old new =
     KeepsWords old new ((t : Moment) → Owns ties room shown [] old t → MatchResult r (λ c. (c ≡ opened (past t) + 1) × MayOpen t.z (past t) × Owns ties room shown [] new (also t (entries.Ctx c gate.Open))) (λ e. RefusedOpen e t.z (past t) × Owns ties room shown [] new t))
 
--- whether a context may be opened, or why not
+-- a context may be opened, or why not
 abbrev pub TellsMayOpen : {P W : Type 0} → (P → Moment → Type 0) → (P → ℕ) → (W → WireView) → Option CtxError → Core P W → Type 0
 TellsMayOpen ties room shown r x =
     (t : Moment) → Owns ties room shown [] x t → MatchOption r (MayOpen t.z (past t)) (λ e. RefusedOpen e t.z (past t))
@@ -35,7 +35,7 @@ abbrev pub ShutsOne : {P W : Type 0} → (P → Moment → Type 0) → (P → �
 ShutsOne ties room shown c old new =
     KeepsWords old new ((t : Moment) → Owns ties room shown [] old t → MayShut t.z (past t) c → ShutOne (Owns ties room shown [] new) t c)
 
--- whether the context may be shut, or why not
+-- the context may be shut, or why not
 abbrev pub TellsMayShut : {P W : Type 0} → (P → Moment → Type 0) → (P → ℕ) → (W → WireView) → Option CtxError → ℕ → Core P W → Type 0
 TellsMayShut ties room shown r c x =
     (t : Moment) → Owns ties room shown [] x t → MatchOption r (MayShut t.z (past t) c) (λ e. RefusedShut e t.z (past t) c)
@@ -45,7 +45,7 @@ abbrev pub EndsOn : {P W : Type 0} → (P → Moment → Type 0) → (P → ℕ)
 EndsOn ties room shown c old new =
     KeepsWords old new ((t : Moment) → ClosesAt ties room shown old t → IsShutting t t c → (es : List Entry) × AreCtxEnds t.z.callers c (past t) es × IsShutting t (after t es) c × (is_pending_on (past (after t es)) c ≡ false) × ClosesAt ties room shown new (after t es))
 
--- whether topics of the context may change, or why not
+-- topics of the context may change, or why not
 abbrev pub TellsMaySwitch : {P W : Type 0} → (P → Moment → Type 0) → (P → ℕ) → (W → WireView) → Option TopicError → ℕ → Core P W → Type 0
 TellsMaySwitch ties room shown r c x =
     (t : Moment) (b : List ℕ) (on : Bool) → Owns ties room shown [] x t → MatchOption r (MaySwitch t.z (past t) c) (λ e. RefusedTopic on e t.z (past t) c b)

@@ -26,12 +26,12 @@ use Rattle.sp_core.specs.Moving.{AreSettling, Later}
 use Rattle.core_state.specs.OperationsStand.{AllTaken}
 use Rattle.sp_core.specs.Standing.{RefusedFor}
 
--- a caller ends an operation so
+-- a caller ends an operation with this cause
 abbrev pub IsCallersEnd : ℕ → Cause → ℕ → Type 0
 IsCallersEnd callers cause by = IsCallers cause × (1 ≤ by) × (by ≤ callers)
 
 -- A receive began on the context; a caller, who guessed its name, had ended it before it was given something; it was
--- collected, and what could be done was done
+-- collected, and the turn was settled
 pub record IsLost (k c callers : ℕ) (es : List Entry) : Type 0 where
   pub op : OpName
   pub cause : Cause
@@ -41,7 +41,7 @@ pub record IsLost (k c callers : ℕ) (es : List Entry) : Type 0 where
   pub by_caller : IsCallersEnd callers cause by
   pub late_settles : AreSettling late
 
--- so many receives were lost so, one after the other
+-- a number of receives were lost like this, one after another
 abbrev pub AreLost : ℕ → ℕ → ℕ → ℕ → List Entry → Type 0
 AreLost zero k c callers es = es ≡ []
 AreLost (suc n) k c callers es = (prefix : List Entry) × (last : List Entry) × (es ≡ prefix ++ last) × AreLost n k c callers prefix × IsLost k c callers last
@@ -55,7 +55,7 @@ pub record HasLost (k c callers : ℕ) (es : List Entry) : Type 0 where
   pub early_settles : AreSettling early
   pub are_lost : AreLost count k c callers lost
 
--- then one that was begun, won with this message, and collected, in one turn
+-- then one receive was begun, won with this message, and collected, in one turn
 pub record HasReceived (m : MessageView) (k c callers : ℕ) (es : List Entry) : Type 0 where
   pub prefix : List Entry
   pub op : OpName
@@ -64,7 +64,7 @@ pub record HasReceived (m : MessageView) (k c callers : ℕ) (es : List Entry) :
   pub prefix_lost : HasLost k c callers prefix
   pub late_settles : AreSettling late
 
--- why nothing was received, by the history with this turn: as no receive begins, or nothing is kept
+-- why nothing was received, by the history with this turn: no receive may begin, or nothing is kept
 abbrev pub RefusedNow : NowError → Setting → List Entry → ℕ → Type 0
 RefusedNow (now_error.Begin e) z past c = RefusedFor e z past c Recv × (e ≢ error.NoMemory)
 RefusedNow now_error.Again z past c =
@@ -77,11 +77,11 @@ ReceivedNow (Err e) z h t k c = HasLost k c z.callers t.entries × RefusedNow e 
 
 -- ---- On the way
 
--- the receive was begun, ended so, and was collected
+-- the receive was begun, ended like this, and was collected
 abbrev pub tried : Moment → OpName → ℕ → Ending → Moment
 tried t op c ending = also (also (also t (Begin op t.caller c Recv None)) (End op ending)) (Took op t.caller)
 
--- what one try came to
+-- the result of one try
 abbrev pub TriedTo : Result (Option MessageView) NowError → ℕ → Moment → Moment → Type 0
 TriedTo (Ok (Some m)) c t u = (op : OpName) × Later (tried t op c (Won (Received (text_of m)))) u
 TriedTo (Ok None) c t u = (op : OpName) × (cause : Cause) × (by : ℕ) × IsCallersEnd t.z.callers cause by × Later (tried t op c (Gone cause by)) u
@@ -100,7 +100,7 @@ pub record LostTo (c : ℕ) (t u : Moment) : Type 0 where
   pub entries : onto u.turn [] ≡ onto t.turn [] ++ lost
   pub are_lost : AreLost count t.caller c t.z.callers lost
 
--- what came of all tries
+-- the result of all tries
 abbrev pub as_try : Result MessageView NowError → Result (Option MessageView) NowError
 as_try (Ok m) = Ok (Some m)
 as_try (Err e) = Err e

@@ -46,7 +46,7 @@ abbrev pub IsLeft : OpName → ℕ → List PendingOperation → Type 0
 IsLeft op c [] = ⊥
 IsLeft op c (x ∷ xs) = ((x.op ≡ op) × (x.ctx ≡ c)) ⊎ IsLeft op c xs
 
--- the pending operations of the context but for these were looked at
+-- the pending operations of the context except these were looked at
 pub record LooksTo (left : List PendingOperation) (c : ℕ) (t u : Moment) (old new : List word.ShownOperation) : Type 0 where
   pub more : List word.ShownOperation
   pub grew : new ≡ old ++ more
@@ -58,7 +58,7 @@ pub record ReadsPending (x : PendingOperation) (c : ℕ) (old new : List word.Sh
   pub grew : new ≡ old ++ more
   pub read : x.ctx ≡ c → Stands (of_op x.op phase.Pending 0) more
 
--- nothing has changed but for what was read
+-- nothing has changed except what was read
 abbrev pub StaysPending : PendingOperation → ℕ → Moment → Moment → Operations → Operations → List word.ShownOperation → List word.ShownOperation → Type 0
 StaysPending x c t u before after old new = (u ≡ t) × (after.pending ≡ before.pending) × ReadsPending x c old new
 

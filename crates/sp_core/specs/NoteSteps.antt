@@ -1,5 +1,5 @@
--- What the core notes: a pipe is full or down, an operation has ended without success. The machine and the counts learn
--- of it.
+-- What the core notes: a pipe is full or down, an operation has ended without success. The machine and the counts are
+-- told.
 use Rattle.std.specs.Prelude.{ℕ, List, [], length, Some, true, ◌≡◌, ◌+◌, ◌<◌, ◌≤◌}
 use Rattle.sp_base.specs.declared.OpName.{OpName}
 use Rattle.sp_history.specs.declared.entry.Cause.{Cause}
@@ -18,7 +18,7 @@ use Rattle.core_state.specs.OperationsStand.{OperationsStand, done_count}
 use Rattle.core_state.specs.PartSteps.{LeavesPending}
 use Rattle.core_state.specs.Tallies.{Tallies}
 
--- the machine and the counts have each such entry of the pipe, and nothing else has changed
+-- the machine and the counts have recorded each such entry of the pipe, and nothing else has changed
 pub record NotesPipe {P W A : Type 0} (ties : P → Moment → Type 0) (room left : P → ℕ) (copies : P → OpName → ℕ) (p : ℕ) (entry : A → Entry) (old new : Core P W) : Type 0 where
   pub proto : (t : Moment) (x : A) → Takes (ties old.proto) (ties new.proto) t (entry x)
   pub tally : (t : Moment) (x : A) → Tallies old.tally t → Tallies new.tally (also t (entry x))
@@ -26,7 +26,7 @@ pub record NotesPipe {P W A : Type 0} (ties : P → Moment → Type 0) (room lef
   pub operations : new.operations ≡ old.operations
   pub pipes : new.pipes ≡ old.pipes
   pub closed : new.closed ≡ old.closed
-  -- no less room, and no fewer copies
+  -- not less room, and no fewer copies
   pub has_room : room old.proto ≤ room new.proto
   pub has_copies : (op : OpName) → copies old.proto op ≤ copies new.proto op
   -- less is left to be done where the pipe was to take a send, or a request that goes out again
@@ -35,7 +35,7 @@ pub record NotesPipe {P W A : Type 0} (ties : P → Moment → Type 0) (room lef
   -- no more is where sends go to many pipes
   pub no_more : (t : Moment) → Lawful t → ties old.proto t → floods t.z.role ≡ true → left new.proto ≤ left old.proto
 
--- the pipe is down, whatever for
+-- the pipe is down, for any cause
 abbrev pub NotesDown : {P W : Type 0} → (P → Moment → Type 0) → (P → ℕ) → (P → ℕ) → (P → OpName → ℕ) → ℕ → Core P W → Core P W → Type 0
 NotesDown ties room left copies p old new = NotesPipe ties room left copies p (λ (why : Why). Down p why) old new
 
@@ -54,7 +54,7 @@ pub record GoesOnWithout {P W : Type 0} (ties : P → Moment → Type 0) (room l
   pub has_room : length old.operations.free.items + done_count old.operations ≤ room old.proto → length new.operations.free.items + done_count new.operations ≤ room new.proto
   pub less : left new.proto < left old.proto
 
--- the machine, the operations and the counts have this end, and nothing else has changed
+-- the machine, the operations and the counts have recorded this end, and nothing else has changed
 pub record NotesEnd {P W : Type 0} (ties : P → Moment → Type 0) (room left : P → ℕ) (op : OpName) (cause : Cause) (by : ℕ) (old new : Core P W) : Type 0 where
   pub ended : (t : Moment) (s : Begun) → Lawful t → Lawful (also t (End op (Gone cause by))) → ties old.proto t → OperationsStand [] old.operations t → pending (past t) op ≡ Some s → GoesOnWithout ties room left old new (also t (End op (Gone cause by)))
   pub tally : (t : Moment) → Tallies old.tally t → Tallies new.tally (also t (End op (Gone cause by)))

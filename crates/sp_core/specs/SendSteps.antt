@@ -42,7 +42,7 @@ abbrev pub MaySendAgainAt : {P W : Type 0} → (P → Moment → Type 0) → (P 
 MaySendAgainAt ties room shown c pipe i old =
     (t : Moment) × (r : LiveRequest) × Owns ties room shown [] old t × CanAgain t c pipe r × IsPipeAt old.pipes i pipe × IsReadyAt shown old.pipes i
 
--- the request went out again, or there was no memory for its copy, and less is left to be done
+-- the request went out again or there was no memory for its copy, and less is left to be done
 pub record SendsAgainAt {P W : Type 0} (ties : P → Moment → Type 0) (room measure : P → ℕ) (shown : W → WireView) (c pipe i : ℕ) (old new : Core P W) : Type 0 where
   pub later : (t : Moment) (r : LiveRequest) → Owns ties room shown [] old t → CanAgain t c pipe r → IsPipeAt old.pipes i pipe → (u : Moment) × Later t u × Owns ties room shown [] new u
   pub left : measure new.proto < measure old.proto

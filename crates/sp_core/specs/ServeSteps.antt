@@ -26,7 +26,7 @@ abbrev pub BringsUp : {P W : Type 0} → (P → Moment → Type 0) → (P → �
 BringsUp ties room shown r w old new =
     KeepsWords old new ((t : Moment) (place : ℕ) → Owns ties room shown [] old t → NoFlood t → MatchResult r (λ p. (p ≡ ups (past t) + 1) × MayAttach t.z (past t) × Owns ties room shown [] new (also t (Up p place (record { numbers = numbers_of (shown w).name })))) (λ e. RefusedAttach e.0 t.z (past t) × Owns ties room shown [] new t))
 
--- whether a pipe may come up, or why not
+-- a pipe may come up, or why not
 abbrev pub TellsMayAttach : {P W : Type 0} → (P → Moment → Type 0) → (P → ℕ) → (W → WireView) → Option AttachError → Core P W → Type 0
 TellsMayAttach ties room shown r x =
     (t : Moment) → Owns ties room shown [] x t → MatchOption r (MayAttach t.z (past t)) (λ e. RefusedAttach e t.z (past t))
@@ -36,7 +36,7 @@ abbrev pub LeavesNumbers : {P W : Type 0} → Option AttachError → Core P W �
 LeavesNumbers r x =
     r ≡ None → (x.pipes.count + length x.pipes.down.items < 4096) × (x.tally.ups < 2 ^ 31 - 1)
 
--- the pipe has its place still, unless it went down
+-- the pipe still has its place, unless it went down
 abbrev pub StaysFlushed : {W : Type 0} → Flushed → ℕ → ℕ → PipesType W → Type 0
 StaysFlushed (flushed.Down why) i p l = ⊤
 StaysFlushed _ i p l = IsPipeAt l i p
@@ -56,7 +56,7 @@ abbrev pub MayTakeFrame : {P W : Type 0} → (P → Moment → Type 0) → (P �
 MayTakeFrame {W = W} ties room shown i p m old =
     (l : PipesType W) × (t : Moment) × Owns ties room shown [] (record old { pipes = l }) t × (m.header ≡ []) × PipesStand shown old.pipes (also t (Frame p m.body)) × IsPipeAt old.pipes i p × (wanted t.z (past t) p ≡ true)
 
--- the frame is recorded and what came of it
+-- the frame and its effects are recorded
 abbrev pub TakesFrame : {P W : Type 0} → (P → Moment → Type 0) → (P → ℕ) → (W → WireView) → Got → ℕ → ℕ → MessageView → Core P W → Core P W → Type 0
 TakesFrame {W = W} ties room shown r i p m old new =
     KeepsWords old new ((l : PipesType W) (t : Moment) → Owns ties room shown [] (record old { pipes = l }) t → PipesStand shown old.pipes (also t (Frame p m.body)) → IsPipeAt old.pipes i p → wanted t.z (past t) p ≡ true → (u : Moment) × GotTo r p t u × Owns ties room shown [] new u × StaysPulled r i p new.pipes)
@@ -81,7 +81,7 @@ abbrev pub PullsPipe : {P W : Type 0} → (P → Moment → Type 0) → (P → �
 PullsPipe ties room shown r i p old new =
     KeepsWords old new ((t : Moment) → Owns ties room shown [] old t → IsPipeAt old.pipes i p → IsUnpulled t p → IsReady t p → (u : Moment) × PulledAll r p t u × Owns ties room shown [] new u)
 
--- nothing of this turn concerns the pipe at this place
+-- no entry of this turn concerns the pipe at this place
 abbrev pub MayServe : {P W : Type 0} → (P → Moment → Type 0) → (P → ℕ) → (W → WireView) → ℕ → ℕ → Core P W → Type 0
 MayServe ties room shown i p old =
     (t : Moment) × Owns ties room shown [] old t × IsPipeAt old.pipes i p × IsFresh t p

@@ -11,7 +11,7 @@ use Rattle.sp_core.specs.Moving.{Later}
 use Rattle.sp_core.specs.Owning.{Owns}
 use Rattle.sp_core.specs.Standing.{IsSettled}
 
--- from each moment to a later one, of which this is so, on the same words
+-- from each moment to a later one that satisfies this, with the same words
 pub record SettlesTo {P W : Type 0} (ties : P → Moment → Type 0) (room : P → ℕ) (shown : W → WireView) (old new : Core P W) (fact : Moment → Moment → Type 0) : Type 0 where
   pub later : (t : Moment) → Owns ties room shown [] old t → (u : Moment) × Later t u × Owns ties room shown [] new u × fact t u
   pub words : words_of new ≡ words_of old
@@ -29,7 +29,7 @@ pub record SettlesBy {P W A : Type 0} (ties : P → Moment → Type 0) (room mea
   pub words : words_of new ≡ words_of old
   pub reads : Grows (reads_of old) (reads_of new)
 
--- the same, of an operation and what it gets or sends
+-- the same, for an operation and what it gets or sends
 pub record SettlesByBoth {P W A B : Type 0} (ties : P → Moment → Type 0) (room measure : P → ℕ) (shown : W → WireView) (old new : Core P W) (can : Moment → A → B → Type 0) : Type 0 where
   pub later : (t : Moment) (x : A) (y : B) → Owns ties room shown [] old t → can t x y → (u : Moment) × Later t u × Owns ties room shown [] new u
   pub left : measure new.proto < measure old.proto

@@ -19,7 +19,7 @@ use Rattle.sp_ends.specs.RunLinks.{AreOfRun, IsListener}
 use Rattle.sp_ends.specs.EndsTurns.{Arrives}
 use Rattle.sp_ends.proofs.NewcomingAsks.{at_of}
 
--- ---- At an address that is listened at
+-- ---- At an address that the net listens on
 
 known_served : (o : Origins) (addr : Addr) → IsAmong addr o.listens → IsKnown o (serving addr)
 known_served o (addrs.Tcp host port) x = tt
@@ -74,7 +74,7 @@ arrives_asked o ends i n d link way a b run at is can handed =
       handed = subst (λ (s : Scheme). IsHandedOut link (Some s) a b) (sym (scheme_asked d.addr (ends.dice + n) can)) handed;
     }
 
--- the dialer has tried, and has this address still
+-- the dialer has tried, and still has this address
 pub arrives_dialed : {L : Type 0} (o : Origins) (ends : LinkEndsView L) (i n : ℕ) (d e : Dialer) (link : LinkView) (way : Result Way NoMemory) (a b : NetView) → AreOfRun o ends → slice_get ends.dialers i ≡ Some e → e.addr ≡ d.addr → IfOk way (λ w. w ≡ asking e.addr (ends.dice + n)) → is_dialable d.addr ≡ true → IsHandedOut link (Some (scheme_of d.addr)) a b → Arrives o link way a b
 arrives_dialed o ends i n d e link way a b run at same is can handed =
     arrives_asked o ends i n e link way a b run at is (ap is_dialable same ∙ can) (subst (λ (x : Addr). IsHandedOut link (Some (scheme_of x)) a b) (sym same) handed)

@@ -1,4 +1,4 @@
--- A link that is opened becomes a pipe, or is refused.
+-- A link whose opening is done becomes a pipe, or is refused.
 use Rattle.std.proofs.Common.{◌≡◌, refl, ap, sym, ◌∙◌, subst, List, [], ◌∷◌, ◌++◌, ℕ, ◌+◌, ◌≤◌, ◌<◌, true, false, arith, drop, inl, Option, Some, None, IfSome}
 use Rattle.std.specs.Prelude.{◌^◌}
 use Rattle.turn_lock.specs.declared.turn.Turn.{Turn}
@@ -181,7 +181,7 @@ module _ {L : Type 0} (seen : L → LinkView) (o : Origins) (z : Setting) (n : O
       rises : CanRise (link.idles + link.stalls) → greeting_ticks past place ≤ link.idles + link.stalls + 1
       rises r = let a = asked (omega (arith, r)) (omega (arith, r)) in let same : greeting_ticks past place ≡ greeting_ticks past link.place = ap (λ (q : ℕ). greeting_ticks past q) is in omega (arith, a, same)
 
--- ---- What became of it
+-- ---- The result
 
 module _ {L : Type 0} (seen : L → LinkView) (start : Beginning) (net : NetView) (ns : List (Newcomer L)) (k : ℕ) (says : Setting → List (Turn Entry) → Turn Entry → Type 0) (a b : SingleView) (took : TookOne says a b) (n : Opening L) where
   abbrev over : LinkView
@@ -199,7 +199,7 @@ module _ {L : Type 0} (seen : L → LinkView) (start : Beginning) (net : NetView
   up_stands p place w opened run new is next first s =
       after_one says a b took (λ z h. LinksStand seen z start h net ns k) (λ l. hand_up seen a.setting start a.seen ns k net took.turn over p (record { numbers = numbers_of (shown w).name }) s next (inl (apart s, is_named seen start.origins a.setting n opened run (past_of a.seen) over.place w refl new s.hand.asked)) (subst (λ (q : ℕ). HasFirst (Up p q (record { numbers = numbers_of (shown w).name })) took.turn) is first) l)
 
-  -- it is in hand still
+  -- it is still in hand
   pub hand_again : AreSettling took.turn.entries → HandStands seen a.setting start a.seen net ns k over → HandStands seen b.setting start b.seen net ns k over
   hand_again q s = after_one says a b took (λ z h. HandStands seen z start h net ns k over) (λ l. hand_stays seen a.setting start a.seen ns k net took.turn over s q l)
 

@@ -1,11 +1,11 @@
--- What names have brought.
+-- The lanes that names have brought.
 use Rattle.std.proofs.Common.{◌≡◌, refl, ap, sym, ◌∙◌, subst, List, [], ◌∷◌, ℕ, zero, suc, ◌+◌, ◌≤◌, ◌<◌, arith, length, Some, None, inl, inr, slice_get}
 use Rattle.std.specs.Prelude.{⊤, slice_index_or, slice_set}
 use Rattle.sp_lane.specs.LaneWires.{LaneWireView}
 use Rattle.sp_lane.specs.Registry.{ListenerView, Registry, IsPast, IsUnlisted, Accepts}
 use Rattle.sp_ends.specs.NameSteps.{HasBrought, Brings, AllBring, HasFewer}
 
--- ---- Registries one after the other
+-- ---- Registries one after another
 
 pub fewer_none : (reg : Registry) → HasFewer reg reg
 fewer_none [] = tt
@@ -26,7 +26,7 @@ fewer_set (suc i) (x ∷ reg) l rest lt is le = (refl, omega arith, fewer_set i 
 
 -- ---- One name
 
--- the first with the name brought so many
+-- the first listener with the name brought n
 abbrev pub BroughtSo : List ℕ → ℕ → Registry → Registry → Type 0
 BroughtSo name n [] reg' = ⊤
 BroughtSo name n (l ∷ reg) [] = ⊥
@@ -56,7 +56,7 @@ so_one name w reg reg' (i, l, rest, at, halves, is) = subst (λ (r : Registry). 
 pub fewer_one : (name : List ℕ) (w : LaneWireView) (reg reg' : Registry) → Accepts name (Some w) reg reg' → HasFewer reg reg'
 fewer_one name w reg reg' (i, l, rest, at, halves, is) = subst (λ (r : Registry). HasFewer reg r) (sym is) (fewer_set i reg l rest at.within at.is (let e = ap length halves in omega (arith, e)))
 
--- none is left with the first of the name
+-- the first listener of the name has none left
 abbrev NoneLeft : List ℕ → Registry → Type 0
 NoneLeft name [] = ⊤
 NoneLeft name (l ∷ reg) = (l.name ≡ name → l.halves ≡ []) × ((l.name ≡ name → ⊥) → NoneLeft name reg)
@@ -75,7 +75,7 @@ brings_empty name [] b f x = tt
 brings_empty name (l ∷ a) [] f x = absurd f
 brings_empty name (l ∷ a) (m ∷ b) f x = (λ e. inl (x.0 (f.0 ∙ e)), λ ne. brings_empty name a b f.2 (x.1 (λ e. ne (sym f.0 ∙ e))))
 
--- it had none any more
+-- it had none left
 pub brings_none : (name : List ℕ) (a b c : Registry) → HasFewer a b → Accepts name None b c → Brings name a c
 brings_none name a b c f (inl u, is) = subst (λ (r : Registry). Brings name a r) (sym is) (brings_empty name a b f (none_unlisted name b u))
 brings_none name a b c f (inr (i, l, at, halves), is) = subst (λ (r : Registry). Brings name a r) (sym is) (brings_empty name a b f (none_at i b name l at.first at.within at.is at.named halves))
@@ -115,7 +115,7 @@ brings_before name (l ∷ a) (m ∷ b) (k ∷ c) f x = (λ e. go (x.0 (f.0 ∙ e
 
 -- ---- All names
 
--- so many of the names did
+-- the first i names brought their lanes
 abbrev pub BringTo : ℕ → List (List ℕ) → Registry → Registry → Type 0
 BringTo zero ns a b = ⊤
 BringTo (suc i) [] a b = ⊤

@@ -58,7 +58,7 @@ knows_got i t a b c link scheme xs ds fs new h same e lt has then_ place lo hi =
     all_keep t place b c (set xs i new) fs then_.dialers
     (subst (λ (ys : List Dialer). HasLink place (set ys i new)) (sym e) (has_set place i ds new lt (has ∙ ap Some (sym is))))
 
--- one more was dialed
+-- one more address was dialed
 pub knows_next : (first i t : ℕ) (a b : NetView) (ds es : List Dialer) → KnowsLinks first a ds → GotBack a b → RedialsOne i t a b ds es → ((q : Dialer) → slice_get ds i ≡ Some q → IsDue t q) → KnowsLinks a.opened b es → KnowsLinks first b es
 knows_next first i t a b ds es was g r due new place lo hi = go (cases_lt place a.opened)
   where

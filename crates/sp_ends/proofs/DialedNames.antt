@@ -1,4 +1,4 @@
--- Names that are dialed and asked, one by one.
+-- Names that are dialed and asked, one after another.
 use Rattle.std.proofs.Common.{◌≡◌, refl, ap, sym, ◌∙◌, subst, List, [], ◌∷◌, ◌++◌, ℕ, zero, suc, ◌+◌, ◌≤◌, ◌<◌, Bool, true, false, cond, arith, length, Option, Some, None, Result, Ok, Err, inl, inr, append_assoc, append-nil, length-append, set, get_or, slice_get, eq-eqb, eqb-true}
 use Rattle.std.specs.Prelude.{◌==◌, ⊤, slice_index_or, slice_set}
 use Rattle.turn_lock.specs.declared.turn.Turn.{Turn}
@@ -115,7 +115,7 @@ module _ (says : Setting → List (Turn Entry) → Turn Entry → Type 0) (a b :
 
 -- ---- Name dialers that dial
 
--- so many had their turn
+-- the first i had their turn
 abbrev pub CallsTo : ℕ → ℕ → SingleView → SingleView → List NameDialer → List NameDialer → Type 0
 CallsTo zero now a b cs ds = ds ≡ cs
 CallsTo (suc i) now a b [] [] = ⊤
@@ -187,19 +187,19 @@ calls_next i now role a b c r s xs ys ws y f g t at due (x, w, at', called, trie
 pub calls_long : (i now : ℕ) (role : Role) (b c : SingleView) (r s : Registry) (ys ws : List NameDialer) → CallsAt i now role b c r s ys ws → length ws ≡ length ys
 calls_long i now role b c r s ys ws (x, w, at, called, tries, is) = ap length is ∙ length-set ys i w
 
--- ---- One after the other
+-- ---- One after another
 
 pub tries_up : (name : List ℕ) (role : Role) (o : Option ℕ) (wire : LaneWireView) (a b : SingleView) (r s : Registry) → Dials name role (Ok wire) r s → GoesOn a b → CameUp o a b → TriesName name role o a b r s
 tries_up name role None wire a b r s d g c = inl (record { wire = wire; dials = d; on = g; came = c })
 tries_up name role (Some p) wire a b r s d g c = record { wire = wire; dials = d; on = g; came = c }
 
--- it is that of the caller
+-- it is the result of the caller
 pub tries_as : (now : ℕ) (role : Role) (name : List ℕ) (o : Option ℕ) (x y w : NameDialer) (a b : SingleView) (r s : Registry) → name ≡ x.name → x ≡ y → w ≡ record y { next = moment (now + 100); pipe = o } → TriesName name role o a b r s → TriesName y.name role w.pipe a b r s
 tries_as now role name o x y w a b r s n e is t =
     subst (λ (q : Option ℕ). TriesName y.name role q a b r s) (sym (ap (λ (k : NameDialer). k.pipe) is)) (subst (λ (m : List ℕ). TriesName m role o a b r s) (n ∙ ap (λ (k : NameDialer). k.name) e) t)
 
 module _ (now : ℕ) (role : Role) where
-  -- so many had their turn
+  -- the first i had their turn
   abbrev pub DialsTo : ℕ → SingleView → SingleView → Registry → Registry → List NameDialer → List NameDialer → Type 0
   DialsTo zero a b r s cs ds = (ds ≡ cs) × (b ≡ a) × (s ≡ r)
   DialsTo (suc i) a b r s [] [] = (b ≡ a) × (s ≡ r)
@@ -224,7 +224,7 @@ module _ (now : ℕ) (role : Role) where
       let same : x ≡ y = one_caller (sym at' ∙ at) in
       let mine = subst (λ (k : NameDialer). TriesName k.name role w.pipe b c r s) same tries in subst (λ (vs : List NameDialer). DialsTo (suc i) a c q s xs vs) (sym is) (dials_set i a b c q r s xs ys y w t at (inl (due, mine)))
 
-  -- one that isn't did not
+  -- one that isn't due did not dial
   pub dials_kept : (i : ℕ) (a b : SingleView) (q r : Registry) (xs ys : List NameDialer) → DialsTo i a b q r xs ys → ((y : NameDialer) → slice_get ys i ≡ Some y → IsDueNameDialer now y → ⊥) → DialsTo (suc i) a b q r xs ys
   dials_kept zero a b q r [] [] (same, e, f) never = (e, f)
   dials_kept zero a b q r [] (y ∷ ys) t never = let no : y ∷ ys ≡ [] = t.0 in cc
@@ -265,7 +265,7 @@ attached_later a b c m n [] g l x = tt
 attached_later a b c m n (Ok p ∷ xs) g l x = (let k = x.0 in omega (arith, k, l), lane_later a b c p g x.1, attached_later a b c p p xs g (omega arith) x.2)
 attached_later a b c m n (Err why ∷ xs) g l x = let r = x.0 in ((r.0, r.1, begins_both r.0 b.seen c.seen r.2 g.begins, r.3), attached_later a b c m n xs g l x.1)
 
--- those of the later part before those of the first
+-- those of the later part, before those of the first part
 attached_both : (a b c : SingleView) (n : ℕ) (xs ys : List (Result ℕ AttachError)) → GoesOn a b → GoesOn b c → ups (past_of b.seen) < n → AreAttached a b (ups (past_of b.seen) + 1) xs → AreAttached b c n ys → AreAttached a c n (ys ++ xs)
 attached_both a b c n xs [] f g l x y = attached_later a b c (ups (past_of b.seen) + 1) n xs g (omega (arith, l)) x
 attached_both a b c n xs (Ok p ∷ ys) f g l x y = let u = f.ups in let k = y.1.0 in (y.0, (omega (arith, u, k), y.1.1), attached_both a b c p xs ys f g (omega (arith, k)) x y.2)
@@ -325,7 +325,7 @@ accepts_one name wire o a b reg reg' (i, l, rest, at, halves, is) came g = recor
 
 -- ---- The wire of a pipe was taken
 
--- so many callers know
+-- the first i callers know
 abbrev pub LostTo : ℕ → ℕ → ℕ → List NameDialer → List NameDialer → Type 0
 LostTo zero now pipe cs ds = ds ≡ cs
 LostTo (suc i) now pipe [] [] = ⊤

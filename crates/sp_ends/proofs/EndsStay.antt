@@ -1,4 +1,4 @@
--- All that stands on the ends of a run stays with turns that leave them, and is told for the next round by a tick.
+-- What holds of the ends of a run still holds after turns that leave them, and a tick begins the next round.
 use Rattle.std.proofs.Common.{◌≡◌, refl, ap, sym, ◌∙◌, subst, List, [], ◌∷◌, ◌++◌, ℕ, ◌+◌, ◌≤◌, ◌<◌, Bool, true, false, arith, length, take, drop}
 use Rattle.std.specs.Prelude.{◌^◌, not}
 use Rattle.std.specs.List.{list_all, AllByRecursion}
@@ -84,7 +84,7 @@ settles (e ∷ entries) h = rw (one e h.0, settles entries h.1) refl
 -- ---- Links in progress
 
 module _ {L : Type 0} (seen : L → LinkView) (o : Origins) (z : Setting) (old new : List Entry) (met : (place : ℕ) → met_at new place ≡ met_at old place) where
-  -- so many ticks more at most
+  -- after at most `more` - `less` further ticks
   pub progress_later : (less more : ℕ) → ((place : ℕ) → greeting_ticks new place + less ≤ greeting_ticks old place + more) → (n : Newcomer L) → IsProgressing seen o z old less n → IsProgressing seen o z new more n
   progress_later less more t n p =
       record { under_way = p.under_way; of_run = p.of_run; met = met (seen n.opening.link).place ∙ p.met; asked = λ i s. let a = p.asked i s in let b = t (seen n.opening.link).place in omega (arith, a, b) }

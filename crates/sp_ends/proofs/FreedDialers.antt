@@ -68,7 +68,7 @@ module _ (place : ℕ) (a b : NetView) (g : GivesOneBack place a b) where
   freed_all t [] (e ∷ es) f = absurd f
   freed_all t (d ∷ ds) [] f = absurd f
 
-  -- the link is back, and who had dialed it is free
+  -- the link is back, and its dialer is free
   pub frees_lost : (t : ℕ) (ds es : List Dialer) → AreFreed t place ds es → Frees t a b ds es
   frees_lost t ds es f = record { net = got_one; dialers = freed_all t ds es f }
 
@@ -147,7 +147,7 @@ redials_got i t a b c link scheme xs ds fs new h e lt place then_ =
 
 -- ---- All of them
 
--- so many had their turn, and none of these is due any more, but those with a connection under way
+-- the first i had their turn, and none of these is still due, except those with a connection under way
 abbrev pub TurnedTo : ℕ → ℕ → NetView → NetView → List Dialer → List Dialer → Type 0
 TurnedTo zero t a b ds es = FreesAll t a b ds es
 TurnedTo (suc i) t a b [] [] = ⊤
@@ -244,7 +244,7 @@ turns_all t a b c ds es fs x y = record { net = got_both a b c x.net y.net; dial
 
 -- ---- All that may have lost the link
 
--- so many had their turn
+-- the first i had their turn
 abbrev pub FreedTo : ℕ → ℕ → ℕ → List Dialer → List Dialer → Type 0
 FreedTo zero t place ds es = es ≡ ds
 FreedTo (suc i) t place [] [] = ⊤

@@ -1,4 +1,4 @@
--- What became of the opening of one link.
+-- The result of the opening of one link.
 use Rattle.std.proofs.Common.{◌≡◌, ap, ◌∙◌, subst, List, ℕ, ◌+◌, ◌≤◌, false, arith, Some}
 use Rattle.std.specs.Prelude.{⊤}
 use Rattle.turn_lock.specs.declared.turn.Turn.{Turn}

@@ -1,4 +1,4 @@
--- One link that was taken out: what became of it.
+-- One link that was taken out, and its fate.
 use Rattle.std.proofs.Common.{◌≡◌, refl, ap, sym, ◌∙◌, subst, List, [], ◌∷◌, ◌++◌, ℕ, ◌+◌, ◌≤◌, Bool, true, false, cond, arith, length, Option, Some, None, inl, inr, append_assoc, length-append, take, drop, eq-eqb, eqb-true}
 use Rattle.std.proofs.lemmas.List.{map-append, append-nil, take-append-le, drop-append-le}
 use Rattle.std.specs.Prelude.{◌≢◌, ◌-◌, ◌^◌, IsTrue, suc, zero, ◌==◌, ◌||◌, not, nat_le}
@@ -47,22 +47,22 @@ of_run_later seen o z n m later same r =
     record { role = same.role ∙ r.role; scheme = later.scheme ∙ (r.scheme ∙ ap scheme_for (sym same.way)); known = subst (λ (w : Way). IsKnown o w) (sym same.way) r.known }
 
 module _ {L : Type 0} (seen : L → LinkView) where
-  -- the places of those in order
+  -- the places of the links in order
   pub in_turn : (k : ℕ) (ns : List (Newcomer L)) → places seen (in_order k ns) ≡ places seen (drop k ns) ++ places seen (take k ns)
   in_turn k ns = map-append (λ (n : Newcomer L). (seen n.opening.link).place) (drop k ns) (take k ns)
 
   module _ (z : Setting) (start : Beginning) (h : List (Turn Entry)) (ns : List (Newcomer L)) (k : ℕ) where
-    -- it is in progress
+    -- the link is in progress
     pub hand_waits : (link : LinkView) → InHand seen start.origins z (past_of h) ns k link → has (greeting (past_of h)) link.place ≡ true
     hand_waits link i = subst (λ (xs : List ℕ). has xs link.place ≡ true) i.all (has_at (places seen (drop k ns)) (places seen (take k ns)) link.place)
 
-    -- without it, the others are in progress
+    -- the others are in progress without it
     pub hand_out : (first opened : ℕ) (link : LinkView) → IsTrue (each (keeps_places first opened) (past_of h)) → InHand seen start.origins z (past_of h) ns k link → places seen (in_order k ns) ≡ without (greeting (past_of h)) link.place
     hand_out first opened link kept i =
         let d : AreDistinct (places seen (drop k ns) ++ link.place ∷ places seen (take k ns)) = subst AreDistinct (sym i.all) (apart first opened (past_of h) kept) in
         in_turn k ns ∙ (sym (taken_out (places seen (drop k ns)) (places seen (take k ns)) link.place d) ∙ ap (λ (xs : List ℕ). without xs link.place) i.all)
 
-    -- the others go on as they were
+    -- the others stay as they were
     others_go_on : (new : List Entry) → ((place : ℕ) → met_at new place ≡ met_at (past_of h) place) → ((place : ℕ) → greeting_ticks new place ≡ greeting_ticks (past_of h) place) → (link : LinkView) → InHand seen start.origins z (past_of h) ns k link → places seen (in_order k ns) ≡ greeting new → AreProgressing seen start.origins z new k ns
     others_go_on new met ticks link i all =
         record {
@@ -134,7 +134,7 @@ module _ {L : Type 0} (seen : L → LinkView) where
               };
         }
 
-    -- it stays in progress, behind the others
+    -- it stays in progress, after the others
     pub stays_behind : (net : NetView) (n m : Newcomer L) → IsLater (seen n.opening.link) (seen m.opening.link) → IsSame n.opening m.opening → m.met ≡ n.met → IsUnderWay seen m.opening → IsUndone seen m.opening → HasTried seen m.opening → HasWaited (seen n.opening.link) (seen m.opening.link) → LinksStand seen z start h net (n ∷ ns) (suc k) → LinksStand seen z start h net (ns ++ m ∷ []) k
     stays_behind net n m later way met under undone tried waited s =
         let a = s.progressing in

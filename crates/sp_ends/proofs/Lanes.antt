@@ -1,4 +1,4 @@
--- A lane becomes a pipe, or is refused: all that stands on the links stays.
+-- A lane becomes a pipe, or is refused: what holds of the links still holds.
 use Rattle.std.proofs.Common.{◌≡◌, refl, ap, sym, ◌∙◌, List, [], ◌∷◌, ◌++◌, ℕ, ◌+◌, Bool, true, false, cond, arith, Option, Some, None, inl, inr, eq-eqb, eqb-true}
 use Rattle.std.specs.Prelude.{◌==◌, ◌||◌, ◌⊎◌}
 use Rattle.turn_lock.specs.declared.turn.Turn.{Turn}

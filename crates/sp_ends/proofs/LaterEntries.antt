@@ -1,4 +1,4 @@
--- What later entries leave as it was.
+-- What later entries leave unchanged.
 use Rattle.std.proofs.Common.{◌≡◌, refl, ap, sym, ◌∙◌, subst, List, [], ◌∷◌, ◌++◌, ℕ, ◌+◌, ◌≤◌, Bool, true, false, cond, arith, length, Some, inl, inr, length-append}
 use Rattle.std.specs.Prelude.{◌==◌, not, ◌||◌, ◌⊎◌, IsTrue, filter}
 use Rattle.std.specs.List.{list_any, list_all}
@@ -55,7 +55,7 @@ module _ (moves : Entry → Bool) (Fact : List Entry → Type 0) (step : (e : En
 
 -- ---- Which entries move links
 
--- with the entry a link is handed out, comes up, is missed or is taken
+-- by the entry a link is handed out, comes up, is missed or is taken
 abbrev pub moves_links : Entry → Bool
 moves_links (Up p place name) = true
 moves_links (Met place) = true
@@ -191,7 +191,7 @@ filter_append p (t ∷ h) turns = go (is_idle_turn p t) (filter_append p h turns
     go true e = omega (arith, e)
     go false e = e
 
--- where the pipe had nothing to pull no oftener, no turn more is idle
+-- where the pipe was found empty no more often, no further turn is idle
 pub idle_same : (p : ℕ) (h turns : List (Turn Entry)) → quiets (past_of (h ++ turns)) p ≡ quiets (past_of h) p → idle_turns (h ++ turns) p ≡ idle_turns h p
 idle_same p h turns e =
     let a = idle_more p turns (past_of h) in

@@ -1,4 +1,4 @@
--- Where each link is when all were given back.
+-- Where each link is once all were given back.
 use Rattle.std.proofs.Common.{◌≡◌, ◌≤◌, ◌<◌, ℕ, suc, Bool, true, false, cond, List, [], ◌∷◌, Option, Some, None, refl, sym, ap, subst, ◌∙◌, inl, inr, arith, eq-eqb, eqb-true}
 use Rattle.std.specs.Prelude.{⊤, ◌==◌, ◌⊎◌, ◌||◌, ◌&&◌, IsTrue, is_none, is_some, nat_le, nat_lt}
 use Rattle.std.specs.List.{All, AllByRecursion}
@@ -43,7 +43,7 @@ pub from_all : {X : Type 0} (P : X → Type 0) (xs : List X) → All P xs → Al
 from_all P [] h = tt
 from_all P (x ∷ xs) h = (h 0 x (omega arith), from_all P xs (λ k d lt. h (suc k) d (omega arith)))
 
--- one of the wires has a link with this place, and that is back; or none has
+-- one of the wires has a link with this place, and the link is back; or none has
 pub record OneOf {L : Type 0} (Fact : DownPipe (EndWire L) → Type 0) (back : FinMap nat_cmp LinkView) (ws : List (DownPipe (EndWire L))) (place : ℕ) : Type 0 where
   pub x : DownPipe (EndWire L)
   pub fact : Fact x
@@ -169,7 +169,7 @@ module _ (first opened : ℕ) (few : first < opened → opened ≤ lane_place) w
   pub missed_place : (past : List Entry) (place : ℕ) → Kept first opened past → was_missed past place ≡ true → place ≡ lane_place → ⊥
   missed_place past place k m lane = let b = met_inside first opened past place k (missed_met past place k m) in let f = few (omega (arith, b.0, b.1)) in omega (arith, b.1, f, lane)
 
-  -- it is in progress no more, and no pipe came up over it
+  -- it is no longer in progress, and no pipe came up over it
   pub missed_rests : (past : List Entry) (place : ℕ) → Kept first opened past → Over past → (place ≡ lane_place → ⊥) → was_missed past place ≡ true → (has (greeting past) place ≡ false) × ((p : ℕ) → place_of past p ≡ Some place → ⊥)
   missed_rests [] place k o n m = cc
   missed_rests (Met other ∷ past) place k o n m =

@@ -11,7 +11,7 @@ use Rattle.sp_history.specs.Past.{up, ups, onto, past_from, is_cleared}
 use Rattle.sp_history.specs.Legal.{MayCome, Follows, LegalFrom}
 use Rattle.sp_history.proofs.Wiring.{has_more, has_before}
 
--- what is up is another pipe than one that is not
+-- what is up is not the pipe that isn't up
 another : (past : List Entry) (p q : ℕ) → has (up past) p ≡ false → has (up past) q ≡ true → (q == p) ≡ false
 another past p q off on = go (q == p) refl
   where

@@ -1,4 +1,4 @@
--- What stands on the links of a run when all were given back.
+-- What holds of the links of a run once all were given back.
 use Rattle.std.proofs.Common.{◌≡◌, ◌≤◌, ◌<◌, ℕ, Bool, true, false, List, [], ◌∷◌, length, Option, Some, None, refl, sym, ap, subst, ◌∙◌, inl, inr, arith, append-nil, eq-eqb}
 use Rattle.std.specs.Prelude.{⊤, ◌==◌, ◌^◌, ◌⊎◌, ◌||◌, IsTrue, is_some}
 use Rattle.std.specs.List.{AllByRecursion}
@@ -47,7 +47,7 @@ undone seen o z past n was h =
 
 -- ---- Where each link is
 
--- the link of a wire, shut, is what is left of its pipe; one that has none was over lanes
+-- the link of a wire, shut, is what is left of its pipe; a wire that has none was over lanes
 pub record WireLeft {L : Type 0} (o : Origins) (z : Setting) (h : List (Turn Entry)) (x : DownPipe (EndWire L)) : Type 0 where
   pub lanes : link_of x.wire ≡ None → place_of (past_of h) x.id ≡ Some lane_place
   pub came_up : (link : LinkView) → link_of x.wire ≡ Some link → place_of (past_of h) x.id ≡ Some link.place

@@ -1,4 +1,4 @@
--- What a net has back when the links of wires are given back one by one.
+-- What a net has back when the links of wires are given back one after another.
 use Rattle.std.proofs.Common.{◌≡◌, ◌<◌, ◌++◌, ℕ, false, List, [], ◌∷◌, length, refl, sym, ap, subst, ◌∙◌, arith, Option, Some, None, get_or}
 use Rattle.std.specs.List.{AllByRecursion}
 use Rattle.std.specs.FinMap.{FinMap}
@@ -59,7 +59,7 @@ pub none_given : (o : Option LinkView) (net : NetView) → shut_under o ≡ None
 none_given None net e = refl
 none_given (Some link) net e = cc
 
--- so many of the wires are still to come
+-- these wires are still to be given back
 pub record GivingWires {L : Type 0} (all ws : List (DownPipe (EndWire L))) (first net : NetView) : Type 0 where
   pub below : AreHandedOut net.opened ws
   pub back : with_wires net.back ws ≡ with_wires first.back all
@@ -87,7 +87,7 @@ module _ {L : Type 0} where
   pub below_last : (ws left : List (DownPipe (EndWire L))) (x : DownPipe (EndWire L)) (opened : ℕ) → AreHandedOut opened ws → ws ≡ left ++ x ∷ [] → CanShut x.wire → IsBelow opened (link_of x.wire)
   below_last ws left x opened below ws_is = (all_but_last (λ (y : DownPipe (EndWire L)). CanShut y.wire → IsBelow opened (link_of y.wire)) left x (subst (AreHandedOut opened) ws_is below)).1
 
--- so many of the newcomers are still to come
+-- these newcomers are still to be given back
 pub record GivingLinks {L : Type 0} (seen : L → LinkView) (all ns : List (Newcomer L)) (first net : NetView) : Type 0 where
   pub below : AllByRecursion (λ n. (seen n.opening.link).place < net.opened) ns
   pub back : with_links seen net.back ns ≡ with_links seen first.back all
@@ -113,7 +113,7 @@ module _ {L : Type 0} (seen : L → LinkView) where
 pub counts_through : (a b c : NetView) → SameCounts a b → SameCounts b c → SameCounts a c
 counts_through a b c f g = record { listens = g.listens ∙ f.listens; opened = g.opened ∙ f.opened; faults = g.faults ∙ f.faults; idles = g.idles ∙ f.idles }
 
--- nothing is at the beginning
+-- nothing is still to be greeted
 pub none_left : {X : Type 0} (xs : List X) (len : ℕ) → len ≡ length xs → ((x : X) → 0 < len → None ≡ Some (get_or xs 0 x)) → xs ≡ []
 none_left [] len is h = refl
 none_left (x ∷ xs) len is h = let e = h x (omega (arith, is)) in cc

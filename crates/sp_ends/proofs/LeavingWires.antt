@@ -1,4 +1,4 @@
--- What the wire of a pipe that is down says of its link.
+-- What the wire of a pipe that is down says about its link.
 use Rattle.std.proofs.Common.{length-append, ◌≡◌, ◌≤◌, ◌<◌, ◌+◌, ◌++◌, ℕ, Bool, true, false, cond, List, [], ◌∷◌, length, Option, Some, None, refl, sym, ap, subst, ◌∙◌, inl, inr, arith, append_assoc, append-nil}
 use Rattle.std.proofs.lemmas.Bool.{cases_lt}
 use Rattle.std.specs.Prelude.{⊤, ◌==◌, ◌^◌, ◌-◌, ◌⊎◌, IfSome, if◌then◌else◌}
@@ -100,7 +100,7 @@ pub record NamedAt (o : Origins) (z : Setting) (past : List Entry) (p place : �
   pub name : name_of past p ≡ Some numbers
   pub over : IsNameOver o z past place numbers
 
--- the same name, after as many ticks
+-- the same name, after the same number of ticks
 name_on : (o : Origins) (z : Setting) (a b : List Entry) (place : ℕ) (ns : List ℕ) → greeting_ticks b place ≡ greeting_ticks a place → IsNameOver o z a place ns → IsNameOver o z b place ns
 name_on o z a b place ns same n =
     record { scheme = n.scheme; spent = n.spent; own = n.own; peer = n.peer; is = n.is; are = n.are; rounds = λ r. let x = n.rounds r in omega (arith, x, same) }
@@ -111,7 +111,7 @@ pub record NamedSo (o : Origins) (z : Setting) (past : List Entry) (p place : �
   pub name : name_of past p ≡ Some numbers
   pub so : (place ≡ lane_place → ⊥) × IsNameOver o z past place numbers ⊎ (place ≡ lane_place) × IsLaneName numbers
 
--- after as many ticks
+-- after the same number of ticks
 so_on : (o : Origins) (z : Setting) (a b : List Entry) (place : ℕ) (ns : List ℕ) → greeting_ticks b place ≡ greeting_ticks a place → (place ≡ lane_place → ⊥) × IsNameOver o z a place ns ⊎ (place ≡ lane_place) × IsLaneName ns
     → (place ≡ lane_place → ⊥) × IsNameOver o z b place ns ⊎ (place ≡ lane_place) × IsLaneName ns
 so_on o z a b place ns same (inl n) = inl (n.0, name_on o z a b place ns same n.1)
@@ -192,7 +192,7 @@ few_ticks test (x ∷ past) = few_ticks test past
 some_is : (a b : List ℕ) → Some a ≡ Some b → a ≡ b
 some_is a b h = cc
 
--- what the name says of the link of a wire over TCP
+-- what the name says about the link of a wire over TCP
 record OverIt (z : Setting) (place spent : ℕ) (v : TcpView) : Type 0 where
   place_is : v.link.place ≡ place
   max_is : v.max ≡ max_body
@@ -415,7 +415,7 @@ module _ (o : Origins) (z : Setting) (h : List (Turn Entry)) (p place : ℕ) (n 
       let shows : name_of (past_of h) p ≡ Some (numbers_of (shown v).name) = down.agrees.name_is ∙ ap (λ (x : WireView). Some (numbers_of x.name)) (sym after) in
       some_is _ _ (sym shows ∙ n.name)
 
-  -- over a link the pipe has the name of one
+  -- over a link, the pipe has the name of a wire over a link
   pub at_link : Stands v → (link : LinkView) → link_of v ≡ Some link → (place ≡ lane_place → ⊥) × NamedAt o z (past_of h) p place
   at_link stands link is = go n.so
     where
@@ -423,7 +423,7 @@ module _ (o : Origins) (z : Setting) (h : List (Turn Entry)) (p place : ℕ) (n 
       go (inl x) = (x.0, record { numbers = n.numbers; name = n.name; over = x.1 })
       go (inr x) = let a = link_name v stands link is in absurd (omega (arith, heads 0 1 _ _ (sym a.1 ∙ (named_as ∙ x.1.2))))
 
-  -- over lanes it is at their place
+  -- over lanes, it is at their place
   pub at_lanes : IsOverLanes v → link_of v ≡ None → place ≡ lane_place
   at_lanes lanes is = go n.so
     where

@@ -90,7 +90,7 @@ distinct_more (y ∷ xs) x d n = (has_append xs (x ∷ []) y ∙ (neither (has x
         go false g = refl
         go true g = let a : x ≡ y = grind (arith, nat_tests) in let h : (y == x) ≡ true = eq-eqb y x (sym a) in cc
 
--- one of a list in which each is once is taken out where it stands
+-- an element of a list without repetitions is taken out at its place
 pub taken_out : (a b : List ℕ) (x : ℕ) → AreDistinct (a ++ x ∷ b) → without (a ++ x ∷ b) x ≡ a ++ b
 taken_out [] b x d = rw (eq-eqb x x refl) (absent b x d.0)
 taken_out (y ∷ a) b x d = rw (other (y == x) refl) (ap (λ (ys : List ℕ). y ∷ ys) (taken_out a b x d.1))
@@ -135,7 +135,7 @@ module _ (first opened : ℕ) where
   pub fresh_met : (past : List Entry) (place : ℕ) → keeps_places first opened past (Met place) ≡ true → met_at past place ≡ None
   fresh_met past place h = is_none_eq (met_at past place) (right_of (nat_le first place && nat_lt place opened) (is_none (met_at past place)) h)
 
-  -- each is in progress once
+  -- each is in progress at most once
   pub apart : (past : List Entry) → Kept past → AreDistinct (greeting past)
   apart [] k = tt
   apart (Met place ∷ past) k = distinct_more (greeting past) place (apart past (right_of _ _ k)) (unmet past place (fresh_met past place (left_of _ _ k)))
@@ -149,7 +149,7 @@ module _ (first opened : ℕ) where
       let low = left_of (nat_le first place) (nat_lt place opened) both in
       let high = right_of (nat_le first place) (nat_lt place opened) both in (grind (arith, nat_tests), grind (arith, nat_tests))
 
-  -- a link that was met is one of the run
+  -- a link that was met is a link of the run
   pub met_inside : (past : List Entry) (place : ℕ) → Kept past → is_some (met_at past place) ≡ true → (first ≤ place) × (place < opened)
   met_inside [] place k h = cc
   met_inside (Met other ∷ past) place k h = go (other == place) refl h (met_inside past place (right_of _ _ k))
@@ -192,7 +192,7 @@ module _ (first opened : ℕ) where
   up_met (NoUp other miss ∷ past) p place k h = up_met past p place (right_of _ _ k) h
   up_met (_ ∷ past) p place k h = up_met past p place k h
 
-  -- a link over which a pipe came up is in progress no more
+  -- a link over which a pipe came up is no longer in progress
   pub passed : (past : List Entry) (p place : ℕ) → Kept past → (first < opened → opened ≤ lane_place) → place_of past p ≡ Some place → has (greeting past) place ≡ false
   passed [] p place k few h = cc
   passed (Met other ∷ past) p place k few h = has_append (greeting past) (other ∷ []) place ∙ neither (has (greeting past) place) ((other == place) || false) (passed past p place (right_of _ _ k) few h) (neither (other == place) false (new (other == place) refl (up_met past p place (right_of _ _ k) h)) refl)
@@ -217,7 +217,7 @@ module _ (first opened : ℕ) where
 
   -- ---- Links that were missed
 
-  -- a link that was missed is another
+  -- a link that was missed is a different link
   abbrev pub IsOther : ℕ → List Entry → Entry → Type 0
   IsOther here past (NoUp place miss) = place ≡ here → ⊥
   IsOther here past _ = ⊤
@@ -236,7 +236,7 @@ module _ (first opened : ℕ) where
   unmet_others (NoUp other miss ∷ past) here k h = (no_place past other here (left_of _ _ k) (unmet past here h), unmet_others past here (right_of _ _ k) h)
   unmet_others (_ ∷ past) here k h = (tt, unmet_others past here k h)
 
-  -- those that were missed are others than one in progress
+  -- those that were missed are not the one in progress
   pub others_missed : (past : List Entry) (here : ℕ) → Kept past → has (greeting past) here ≡ true → Each (IsOther here) past
   others_missed [] here k h = tt
   others_missed (Met other ∷ past) here k h = (tt, go (has (greeting past) here) refl (has_append (greeting past) (other ∷ []) here) (others_missed past here (right_of _ _ k)))
@@ -269,7 +269,7 @@ module _ (first opened : ℕ) where
     up_inside (NoUp other miss ∷ past) p place k o h n = up_inside past p place (right_of _ _ k) o h n
     up_inside (_ ∷ past) p place k o h n = up_inside past p place k o h n
 
-    -- those that were missed are others than one that came up
+    -- those that were missed are not the one that came up
     pub others_up : (past : List Entry) (p here : ℕ) → Kept past → Over past → place_of past p ≡ Some here → (here ≡ lane_place → ⊥) → Each (IsOther here) past
     others_up [] p here k o h n = tt
     others_up (Up q other name ∷ past) p here k o h n = (tt, go (q == p) h (others_up past p here (right_of _ _ k) (right_of _ _ o)))
@@ -281,7 +281,7 @@ module _ (first opened : ℕ) where
     others_up (NoUp other miss ∷ past) p here k o h n = (no_place past other here (left_of _ _ k) (passed past p here (right_of _ _ k) few h), others_up past p here (right_of _ _ k) o h n)
     others_up (_ ∷ past) p here k o h n = (tt, others_up past p here k o h n)
 
-    -- over a link one pipe comes up
+    -- one pipe at most comes up over a link
     pub up_once : (past : List Entry) (p q place : ℕ) → Kept past → Over past → place_of past p ≡ Some place → place_of past q ≡ Some place → (place ≡ lane_place → ⊥) → p ≡ q
     up_once [] p q place k o h g n = cc
     up_once (Up s other name ∷ past) p q place k o h g n = go (s == p) refl (s == q) refl h g (up_once past p q place (right_of _ _ k) (right_of _ _ o))

@@ -1,4 +1,4 @@
--- What stands on the links of a run after a turn in which one link is handed out, comes up, is missed or is taken.
+-- What holds of the links of a run after a turn in which one link is handed out, comes up, is missed or is taken.
 use Rattle.std.proofs.Common.{◌≡◌, refl, ap, sym, ◌∙◌, subst, List, [], ◌∷◌, ◌++◌, ℕ, ◌≤◌, ◌<◌, Bool, true, false, arith, length, Some, inl, inr}
 use Rattle.std.specs.Prelude.{◌⊎◌, ◌^◌, IsTrue, is_some, is_none, nat_le, nat_lt, ◌&&◌}
 use Rattle.std.proofs.lemmas.Bool.Decides.{nat_tests}
@@ -128,7 +128,7 @@ module _ (z : Setting) (start : Beginning) (net net' : NetView) (h : List (Turn 
           turned true on = inl (still (inl on))
           turned false off = inr (b.0, same ∙ b.1, (b.2.0, asked_in_after place b.0 b.2.1, carried_after p place b.0 is off b.2.2))
 
-  -- what an entry has to bring with it. Here is the place of a link that comes back in the turn
+  -- what an entry has to bring with it; `here` is the place of a link that comes back in the turn
   pub record Steps : Type 0 where
     pub here : ℕ
     pub opened : start.net.opened ≤ net'.opened

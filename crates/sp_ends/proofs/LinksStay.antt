@@ -1,4 +1,5 @@
--- What stands on the links of a run stays with turns in which no link is handed out, comes up, is missed or is taken.
+-- What holds of the links of a run still holds after turns in which no link is handed out, comes up, is missed or is
+-- taken.
 use Rattle.std.proofs.Common.{◌≡◌, refl, ap, sym, ◌∙◌, subst, List, [], ◌∷◌, ◌++◌, ℕ, ◌<◌, Bool, true, false, arith, length, Some, inl, inr, append_assoc}
 use Rattle.std.specs.Prelude.{◌^◌, IsTrue, is_some}
 use Rattle.std.specs.FinMap.{FinMap}
@@ -33,7 +34,7 @@ use Rattle.sp_ends.proofs.LinkPlaces.{passed}
 use Rattle.sp_ends.proofs.LeavingCleared.{stays_cleared}
 use Rattle.sp_ends.proofs.LaterEntries.{past_of_more, NoneIn, turns_leave, turns_keep, moves_links, IsHeld, held_on, numbered, malformed_same, idle_same, ticks_grow, each_goes_on, all_goes_on, each_mapped}
 
--- ---- Which entries leave what
+-- ---- What entries leave unchanged
 
 pub same_greeting : (e : Entry) (past : List Entry) → moves_links e ≡ false → greeting (e ∷ past) ≡ greeting past
 same_greeting (Up p place name) past h = cc
@@ -67,7 +68,7 @@ pub free_cause : (ways : Ways) (z : Setting) (h : List (Turn Entry)) (back : Fin
 free_cause ways z h back past (NoUp place miss) n = cc
 free_cause ways z h back past _ n = tt
 
--- a link that is not in progress has no tick more
+-- a link that is not in progress has no further ticks
 abbrev pub Rests : ℕ → ℕ → List Entry → Type 0
 Rests place n past = (has (greeting past) place ≡ false) × (greeting_ticks past place ≡ n)
 
@@ -197,6 +198,6 @@ legal_both : (z : Setting) (past : List Entry) (h turns : List (Turn Entry)) →
 legal_both z past [] turns l = (tt, l)
 legal_both z past (t ∷ h) turns l = let b = legal_both z (onto t.entries past) h turns l.1 in ((l.0, b.0), b.1)
 
--- the turns more are legal where the history with them is
+-- the further turns are legal where the history with them is
 pub legal_rest : (z : Setting) (h turns : List (Turn Entry)) → Legal z (h ++ turns) → Legal z h × LegalFrom z (past_of h) turns
 legal_rest z h turns l = legal_both z [] h turns l

@@ -1,4 +1,4 @@
--- What is read at an index of a list.
+-- The element at an index of a list.
 use Rattle.std.proofs.Common.{◌≡◌, ◌<◌, ℕ, List, length, Some, refl, sym, ap, ◌∙◌, arith, slice_get, get_or}
 use Rattle.std.proofs.lemmas.Option.{slice_get_read}
 

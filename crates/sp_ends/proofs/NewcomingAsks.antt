@@ -1,4 +1,4 @@
--- What asking listeners and dialing addresses, one by one, leaves.
+-- What asking listeners and dialing addresses, one after another, leaves.
 use Rattle.std.proofs.Common.{◌≡◌, ◌≤◌, ◌<◌, ◌+◌, ◌*◌, ◌++◌, ◌∷◌, ℕ, zero, suc, Bool, true, false, cond, List, [], length, Some, refl, sym, ap, subst, ◌∙◌, arith, inl, inr, slice_get, get_or, add-one, eqb-true}
 use Rattle.std.specs.Prelude.{◌⊎◌, ◌-◌, min, nat_le, nat_lt}
 use Rattle.std.specs.List.{AllByRecursion}
@@ -135,7 +135,7 @@ module _ {L : Type 0} (seen : L → LinkView) where
           let w = own_one k (Some i) old.newcomers new.newcomers kept in
           let one = one_at_most k (Some i) in omega (arith, w, one, less, l)
 
-  -- one after the other
+  -- one after another
   pub asked_both : (first mid last m n : ℕ) (old half new : LinkEndsView L) (net net1 net2 : NetView) (a b c : SingleView) (t : ℕ) (d e : Bool) → HasAsked seen first mid m old half net net1 a b t d → HasAsked seen mid last n half new net1 net2 b c t e → first ≤ mid → mid ≤ last → HasAsked seen first last (m + n) old new net net2 a c t e
   asked_both first mid last m n old half new net net1 net2 a b c t d e x y le le' = record {
     in_turn = λ start k. y.in_turn start (x.in_turn start k);
@@ -187,7 +187,7 @@ module _ {L : Type 0} (seen : L → LinkView) where
     faults = omega (arith, x.faults, y.faults);
   }
 
-  -- at most so many links more
+  -- with at most n links more
   pub asked_as : (first last m n : ℕ) (old new : LinkEndsView L) (net net' : NetView) (a b : SingleView) (t : ℕ) (d : Bool) → m ≤ n → HasAsked seen first last m old new net net' a b t d → HasAsked seen first last n old new net net' a b t d
   asked_as first last m n old new net net' a b t d more x = record {
     in_turn = x.in_turn;
@@ -213,7 +213,7 @@ module _ {L : Type 0} (seen : L → LinkView) where
 
   -- ---- One listener
 
-  -- it was asked so often, and brought so many links at most
+  -- it was asked c times, and brought at most c links
   pub record Asking (i c : ℕ) (old new : LinkEndsView L) (net net' : NetView) (s s' : SingleView) (now : ℕ) (is_dry : Bool) : Type 0 where
     pub asked : HasAsked seen i (i + 1) c old new net net' s s' now is_dry
     pub rose : CanRise net'.idles → CanRise net'.faults → sum_of net + c ≤ sum_of net'

@@ -5,7 +5,7 @@ use Rattle.sp_ends.specs.DialerSteps.{IsSameDialer}
 use Rattle.sp_ends.specs.Freeing.{AreSameDialers}
 use Rattle.sp_ends.proofs.TurnParts.{dialer_both}
 
--- one of them has lost its link
+-- one dialer has lost its link
 pub one_lost : (xs ys : List Dialer) (i : ℕ) (y z : Dialer) → AreSameDialers xs ys → i < length ys → IsSameDialer (get_or ys i y) z → AreSameDialers xs (set ys i z)
 one_lost [] [] i y z all lt same = absurd (omega arith)
 one_lost [] (w ∷ ys) i y z all lt same = absurd all

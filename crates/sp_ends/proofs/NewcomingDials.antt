@@ -1,4 +1,4 @@
--- Addresses are dialed one by one.
+-- Addresses are dialed one after another.
 use Rattle.std.proofs.Common.{◌≡◌, ◌≤◌, ◌<◌, ◌+◌, ◌∷◌, ℕ, zero, suc, List, [], length, Option, Some, None, refl, sym, ap, subst, ◌∙◌, arith, min, set, slice_get, get_or, inl, inr}
 use Rattle.std.specs.Prelude.{◌^◌, ◌-◌, ◌⊎◌}
 use Rattle.sp_base.specs.Views.{LinkView, NetView}
@@ -20,7 +20,7 @@ use Rattle.sp_ends.proofs.NewcomingAsks.{same_tries}
 
 -- ---- One dial
 
--- the same but for its dialers
+-- the same, except for its dialers
 pub turned_as : {L : Type 0} (seen : L → LinkView) (start : Beginning) (ends ends' : LinkEndsView L) (net : NetView) (s : SingleView) (t k : ℕ) → SameEnds ends ends' → ends'.newcomers ≡ ends.newcomers → InTurn seen start ends net s t k → InTurn seen start ends' net s t k
 turned_as seen start ends ends' net s t k same n i = record {
   role = same.role ∙ i.role;
@@ -31,16 +31,16 @@ turned_as seen start ends ends' net s t k same n i = record {
   sound = i.sound;
 }
 
--- the same but for what dialers know of their links
+-- the same, except for what dialers know of their links
 pub tried : {L : Type 0} (ends old : LinkEndsView L) (ds : List Dialer) → ends ≡ old → addrs_of ds ≡ addrs_of old.dialers → SameEnds old (record ends { dialers = ds })
 tried ends old ds is addrs = record { role = ap (λ (e : LinkEndsView _). e.role) is; dice = ap (λ (e : LinkEndsView _). e.dice) is; listeners = ap (λ (e : LinkEndsView _). e.listeners) is; dials = addrs }
 
--- the same but for how many links were asked for
+-- the same, except for how many links were asked for
 pub asked_on : {L : Type 0} (old mid new : LinkEndsView L) → SameEnds old mid → new ≡ record mid { asked = new.asked } → SameEnds old new
 asked_on old mid new same is =
     ends_both old mid new same (record { role = ap (λ (e : LinkEndsView _). e.role) is; dice = ap (λ (e : LinkEndsView _). e.dice) is; listeners = ap (λ (e : LinkEndsView _). e.listeners) is; dials = ap (λ (e : LinkEndsView _). addrs_of e.dialers) is })
 
--- a link was handed out, and no result was counted then
+-- a link was handed out, and no result was then counted
 pub asked_got : (link : LinkView) (wanted : Option Scheme) (a b c : NetView) → IsHandedOut link wanted a b → SameCounts b c → AsksNet a c
 asked_got link wanted a b c handed same =
     let opened = same.opened ∙ handed.opened in
@@ -60,7 +60,7 @@ tried_free seen linked.Failed t old new h none = inl (h.place, h.next)
 tried_free seen linked.Begun t old new h none = inr (h.place, h.next)
 tried_free seen (linked.Got link) t old new h none = cc
 
--- the net is the same then, but for what it counted
+-- then the net is the same, except for its counts
 pub said_none : {L : Type 0} (seen : L → LinkView) (said : Linked L) (scheme : Option Scheme) (a b : NetView) → LinkedAs seen said scheme a b → place_after seen said ≡ None → Untouched a b
 said_none seen linked.NotYet scheme a b shows none = shows.0
 said_none seen linked.Begun scheme a b shows none = shows.0
@@ -95,7 +95,7 @@ dial_then t same same' d e f m h s = record {
     go (inl n) = inl (subst (IsFree t) (sym (s.free n.0)) n)
     go (inr n) = inr (subst (IsUnderWay t) (sym (s.free n.0)) n)
 
--- and others have lost their links then
+-- and then others have lost their links
 pub dials_then : (i t : ℕ) (same same' : Type 0) (ds es fs : List Dialer) → (same' → same) → DialsOne i t same ds es → AreSameDialers es fs → DialsOne i t same' ds fs
 dials_then i t same same' [] [] [] m d s = tt
 dials_then i t same same' [] [] (f ∷ fs) m d s = absurd s

@@ -17,7 +17,7 @@ use Rattle.sp_ends.proofs.NewcomingMoments.{due_from, due_later, last_more, next
 
 -- ---- A dialer in a turn
 
--- so many of them had their turn
+-- the first i of them had their turn
 abbrev pub DialedTo : List Entry → ℕ → Type 0 → List Dialer → List Dialer → Type 0
 DialedTo past zero same ds es = AreSameDialers ds es
 DialedTo past (suc i) same [] [] = ⊤
@@ -77,7 +77,7 @@ module _ (past before : List Entry) (t : ℕ) (t_is : ticks past ≡ ticks befor
     same_next : same' → d.next ≡ e.next
     same_next m = ap (λ (q : Dialer). q.next) (sym (is_d m))
 
-    -- it was tried as often as it must at least
+    -- it was tried at least as often as it must be
     enough : same' → length (ticks past) < 2 ^ 64 → length (spaced_from 0 (ticks before)) ≤ d.tries
     enough m l = x.tries (m0 m) (short_of _ _ l longer)
 
@@ -117,7 +117,7 @@ module _ (past before : List Entry) (t : ℕ) (t_is : ticks past ≡ ticks befor
         later : same' → IsDueFrom (t + 100) e.next
         later m = subst (IsDueFrom (t + 100)) (same_next m) (due_later (last_of 0 (ticks before) + 100) (t + 100) d.next (omega (arith, order)) (x.soon (m0 m)))
 
-        -- the next moment of those stands
+        -- the next moment for it is known
         was_next : same' → length (ticks past) < 2 ^ 64 → d.tries ≤ length (spaced_from 0 (ticks before)) → IsDueFrom n e.next
         was_next m l few = subst (IsDueFrom n) (same_next m) (x.next (m0 m) (short_of _ _ l longer) few)
 
@@ -152,7 +152,7 @@ module _ (past before : List Entry) (t : ℕ) (t_is : ticks past ≡ ticks befor
       begun = λ w. begun_no w;
     }
 
-  -- of one that was dialed, or was not due
+  -- for a dialer that was dialed, or was not due
   still : (same same' : Type 0) (e f : Dialer) → IsDialed same past e → IsSameDialer e f → (same' → same) → IsDialed same' past f
   still same same' e f x s m = record {
     dialable = subst IsDialable (sym s.addr) x.dialable;

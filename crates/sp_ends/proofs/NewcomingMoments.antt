@@ -97,7 +97,7 @@ tries_up more sp f e d long short a b c g h i j = up_to more sp f e d long short
 no_fewer_up : (sp f e d long short m : ℕ) → sp ≤ d → e ≡ d → f ≡ min (e + 1) m → long ≤ m → long ≡ short + 1 → sp ≤ short → f ≤ sp → ⊥
 no_fewer_up sp f e d long short m b c g h i j k = omega arith
 
--- once more is more than so often
+-- one more is more than that many
 pub no_fewer : (sp f e d long short : ℕ) → sp ≤ d → e ≡ d → f ≡ min (e + 1) (2 ^ 64 - 1) → long < 2 ^ 64 → long ≡ short + 1 → sp ≤ short → f ≤ sp → ⊥
 no_fewer sp f e d long short b c g h i j k = no_fewer_up sp f e d long short (2 ^ 64 - 1) b c g (omega (arith, h)) i j k
 

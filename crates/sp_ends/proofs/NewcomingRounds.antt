@@ -1,4 +1,4 @@
--- All addresses of a run are dialed that are due.
+-- All addresses of a run that are due are dialed.
 use Rattle.std.proofs.Common.{◌≡◌, ◌≤◌, ◌<◌, ◌+◌, ◌*◌, ◌++◌, ◌∷◌, ℕ, zero, suc, Bool, true, false, cond, List, [], length, Option, Some, None, refl, sym, ap, subst, ◌∙◌, arith, inl, inr, slice_get, get_or, take, add-one}
 use Rattle.std.specs.Prelude.{◌^◌, ◌-◌, is_none}
 use Rattle.std.proofs.lemmas.Bool.Decides.{nat_tests}
@@ -45,7 +45,7 @@ order_at : {L : Type 0} (seen : L → LinkView) (start : Beginning) (ends : Link
 order_at seen start ends net s t k i =
     last_before 0 (ticks (before_last_tick (past_of s.seen))) t (omega arith) (subst AreOrdered (ticks_at seen start ends net s t k i) (ticks_in_order s.setting (past_of s.seen) (legal_allowed s.setting s.seen i.sound.legal)))
 
--- the one that stands at this place
+-- the one at this place
 pub is_there : (xs ds : List Dialer) (i : ℕ) (d q : Dialer) → xs ≡ ds → i < length ds → d ≡ get_or xs i d → slice_get ds i ≡ Some q → d ≡ q
 is_there xs ds i d q e lt is at =
     let here = at_index xs ds i d e lt is in
@@ -71,7 +71,7 @@ dues_none : (t : ℕ) (ds : List Dialer) → dues_of t (take 0 ds) ≡ 0
 dues_none t [] = refl
 dues_none t (d ∷ ds) = refl
 
--- one is due at most of one
+-- of one, at most one is due
 dues_one : (t i : ℕ) (ds : List Dialer) → dues_of t (take (suc i) ds) ≤ dues_of t (take i ds) + 1
 dues_one t zero [] = omega arith
 dues_one t zero (d ∷ ds) = go (is_due t d)
@@ -86,7 +86,7 @@ dues_one t (suc i) (d ∷ ds) = go (is_due t d) (dues_one t i ds)
     go true l = omega (arith, l)
     go false l = omega (arith, l)
 
--- none is due of one that isn't due any more, since it was not dialed
+-- none is due of a dialer that is no longer due, since it was not dialed
 dues_waiting : (t : ℕ) (a b : NetView) (i : ℕ) (ds es : List Dialer) → TurnedTo i t a b ds es → ((q : Dialer) → slice_get es i ≡ Some q → IsDue t q → ⊥) → dues_of t (take (suc i) ds) ≤ dues_of t (take i ds)
 dues_waiting t a b zero [] es x never = omega arith
 dues_waiting t a b zero (d ∷ ds) [] x never = absurd x

@@ -1,4 +1,4 @@
--- A link that was handed out just now, and what asking the net leaves.
+-- A link that was just handed out, and what asking the net leaves.
 use Rattle.std.proofs.Common.{◌≡◌, ◌<◌, ℕ, List, length, Option, Some, Result, Ok, IfOk, refl, sym, ap, subst, ◌∙◌}
 use Rattle.turn_lock.specs.declared.turn.Turn.{Turn}
 use Rattle.sp_base.specs.Views.{LinkView, NetView}
@@ -55,7 +55,7 @@ met_when seen start before net ends a b t link place at took i =
 scheme_is : (a b : Scheme) → Some a ≡ Some b → a ≡ b
 scheme_is a b e = cc
 
--- the newcomer over it stands before the others
+-- the newcomer over it is before the others
 pub newcomer_met : {L : Type 0} (seen : L → LinkView) (start : Beginning) (before net : NetView) (ends : LinkEndsView L) (a b : SingleView) (t : ℕ) (n : Newcomer L) (link : L) (place : ℕ) (role : Role) (way : Result Way NoMemory) (begins : Way) (from : Option ℕ) → place ≡ (seen link).place → way ≡ Ok begins → IsNewcomer seen link role begins t from n → role ≡ ends.role
     → TookOne (MeetsAt place) a b → Arrives start.origins (seen link) way before net → InTurn seen start ends before a t 0 → InTurnWith seen start n ends net b t 0
 newcomer_met seen start before net ends a b t n link place role way begins from place_is way_is newcomer role_is took r i =

@@ -7,7 +7,7 @@ use Rattle.std.proofs.lemmas.Bool.{cases_lt}
 use Rattle.sp_ends.specs.declared.newcomer.Newcomer.{Newcomer}
 use Rattle.sp_ends.specs.Listening.{is_from, one_from, own_of, one_dialed, dialed_of, KeepsFrom, FewerOwn, IsFromOne, AreCounted, room_for, one_open, open_of, asks_one, asks_to}
 
--- ---- One is it or not
+-- ---- One is or is not
 
 pub one_at_most : (i : ℕ) (from : Option ℕ) → one_from i from ≤ 1
 one_at_most i from = go (is_from i from)
@@ -30,7 +30,7 @@ dialed_at_most : (from : Option ℕ) → one_dialed from ≤ 1
 dialed_at_most None = omega arith
 dialed_at_most (Some i) = omega arith
 
--- ---- Lists
+-- ---- One may come after them
 
 module _ {L : Type 0} where
   pub own_short : (i : ℕ) (ns : List (Newcomer L)) → own_of i ns ≤ length ns
@@ -45,9 +45,9 @@ module _ {L : Type 0} where
   dialed_more [] n = refl
   dialed_more (m ∷ ns) n = let e = dialed_more ns n in omega (arith, e)
 
-  -- ---- One may stand behind them
+  -- ---- One more may follow them
 
-  -- of another listener, or of none
+  -- of another listener, or of no listener
   pub own_other : (i : ℕ) (from : Option ℕ) (a b : List (Newcomer L)) → is_from i from ≡ false → KeepsFrom from a b → own_of i b ≡ own_of i a
   own_other i from a b off (inl same) = ap (own_of i) same
   own_other i from a b off (inr (n, is, new)) =
@@ -89,7 +89,7 @@ module _ {L : Type 0} where
       let o = ap one_dialed is in
       let w = ap dialed_of new in omega (arith, e, o, w)
 
-  -- the first was taken out, and may stand behind the others again
+  -- the first was taken out, and may come after the others again
   pub fewer_step : (n : Newcomer L) (a rest b : List (Newcomer L)) → a ≡ n ∷ rest → KeepsFrom n.from rest b → FewerOwn a b
   fewer_step n a rest b first k = record {
     own = λ i. let l = own_one i n.from rest b k in let w = ap (own_of i) first in omega (arith, l, w);
@@ -114,7 +114,7 @@ module _ {L : Type 0} where
       go true = omega arith
       go false = omega arith
 
-  -- one that is full isn't asked; else it was asked, where as many were handed out as it has more
+  -- a listener that is full isn't asked; otherwise it was asked, unless what was handed out filled it
   pub open_full : (i : ℕ) (a : List (Newcomer L)) (now handed : ℕ) → 256 ≤ now → now ≤ own_of i a + handed → one_open i a ≤ handed
   open_full i a now handed full le = go (nat_lt (own_of i a) 256) refl
     where
@@ -130,12 +130,12 @@ module _ {L : Type 0} where
       go true e true f = omega arith
       go true e false f = absurd (grind (arith, nat_tests))
 
-  -- of fewer more are
+  -- fewer more are asked
   pub open_less : (i : ℕ) (a b : List (Newcomer L)) → ((k : ℕ) → own_of k b ≤ own_of k a) → open_of i a ≤ open_of i b
   open_less zero a b le = omega arith
   open_less (suc i) a b le = let x = open_less i a b le in let y = open_step i a b (le i) in omega (arith, x, y)
 
-  -- all are where fewer than 256 links are being opened
+  -- all are asked where fewer than 256 links are being opened
   pub all_open : (i : ℕ) (ns : List (Newcomer L)) → length ns < 256 → open_of i ns ≡ i
   all_open zero ns lt = refl
   all_open (suc i) ns lt =
@@ -159,7 +159,7 @@ module _ {L : Type 0} where
       go true e = omega (arith, full, le)
       go false e = absurd (grind (arith, nat_tests))
 
-  -- the more it has, and the more are handed out, the less often
+  -- the more it has and the more are handed out, the less often it is asked
   pub asks_step : (i h h' : ℕ) (a b : List (Newcomer L)) → h ≤ h' → own_of i b ≤ own_of i a → asks_one i h' a ≤ asks_one i h b
   asks_step i h h' a b more le = go (nat_le 256 (own_of i a + h')) refl (nat_le 256 (own_of i b + h)) refl
     where
@@ -186,7 +186,7 @@ get_past [] i le = refl
 get_past (c ∷ cs) zero le = absurd (omega (arith, le))
 get_past (c ∷ cs) (suc i) le = get_past cs i (omega (arith, le))
 
--- the listener isn't there
+-- the listener doesn't exist
 off_past : (m i : ℕ) (from : Option ℕ) → IsFromOne m from → m ≤ i → one_from i from ≡ 0
 off_past m i None w le = refl
 off_past m i (Some j) w le = one_none i (Some j) (grind (arith, nat_tests))
@@ -216,7 +216,7 @@ module _ {L : Type 0} where
   counted_as cs cs' m m' ns ns' cap cap' e f g le a =
       subst (λ (xs : List ℕ). AreCounted xs m' ns' cap') (sym e) (subst (λ (k : ℕ). AreCounted cs k ns' cap') (sym f) (subst (λ (xs : List (Newcomer L)). AreCounted cs m xs cap') (sym g) (record { lengths = a.lengths; counted = a.counted; within = a.within; few = a.few; room = omega (arith, a.room, le) })))
 
-  -- one listener more
+  -- one more listener
   pub counted_listener : (cs : List ℕ) (m : ℕ) (ns : List (Newcomer L)) (cap cap' : ℕ) → AreCounted cs m ns cap → room_for (m + 1) ≤ cap' → AreCounted (cs ++ 0 ∷ []) (m + 1) ns cap'
   counted_listener cs m ns cap cap' a room = record {
     lengths = let l = length-append cs (0 ∷ []) in omega (arith, l, a.lengths);
@@ -230,7 +230,7 @@ module _ {L : Type 0} where
       go i (inl lt) = a.counted i lt
       go i (inr le) = get_past cs i le ∙ sym (own_past m i ns a.within (omega (arith, le, a.lengths)))
 
-  -- one link more
+  -- one more link
   pub counted_more : (cs cs' : List ℕ) (m : ℕ) (ns : List (Newcomer L)) (n : Newcomer L) (cap : ℕ) → AreCounted cs m ns cap → length cs' ≡ length cs → ((i : ℕ) → i < length cs → get_or cs' i 0 ≡ get_or cs i 0 + one_from i n.from) → IsFromOne m n.from → length ns < room_for m → AreCounted cs' m (ns ++ n ∷ []) cap
   counted_more cs cs' m ns n cap a same more w room = record {
     lengths = same ∙ a.lengths;
@@ -240,7 +240,7 @@ module _ {L : Type 0} where
     room = a.room;
   }
 
-  -- the first less
+  -- without the first
   pub counted_rest : (cs cs' : List ℕ) (m : ℕ) (n : Newcomer L) (ns : List (Newcomer L)) (cap : ℕ) → AreCounted cs m (n ∷ ns) cap → length cs' ≡ length cs → ((i : ℕ) → i < length cs → get_or cs i 0 ≡ get_or cs' i 0 + one_from i n.from) → AreCounted cs' m ns cap
   counted_rest cs cs' m n ns cap a same less = record {
     lengths = same ∙ a.lengths;
@@ -250,6 +250,6 @@ module _ {L : Type 0} where
     room = a.room;
   }
 
-  -- no count is at its type's end
+  -- no count is at its type's maximum
   pub counted_small : (cs : List ℕ) (m : ℕ) (ns : List (Newcomer L)) (cap end : ℕ) → AreCounted cs m ns cap → length ns < end → (i : ℕ) → i < length cs → get_or cs i 0 < end
   counted_small cs m ns cap end a few i lt = let c = a.counted i lt in let s = own_short i ns in omega (arith, c, s, few)

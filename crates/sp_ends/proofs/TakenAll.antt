@@ -15,11 +15,11 @@ use Rattle.sp_ends.proofs.LinkPlaces.{gone}
 use Rattle.sp_ends.proofs.LaterEntries.{past_of_more}
 use Rattle.sp_ends.proofs.TurnParts.{up_numbered}
 
--- the pipe came up and is up no longer; and, where it is so, its wire was taken
+-- the pipe came up and is no longer up; and, where the flag is true, its wire was taken
 abbrev pub IsOff : Bool → List Entry → ℕ → Type 0
 IsOff taken past p = (p ≤ ups past) × (has (up past) p ≡ false) × (taken ≡ true → has (untaken past) p ≡ false)
 
--- no longer there when another is taken out
+-- still not there when another is taken out
 still_out : (us : List ℕ) (q p : ℕ) → has us p ≡ false → has (without us q) p ≡ false
 still_out us q p off = go (has (without us q) p) refl
   where
@@ -36,7 +36,7 @@ still_apart us q p off ne = go (has (us ++ q ∷ []) p) refl
     go true e = absurd (ne (has_more us q p e off))
 
 module _ (z : Setting) (p : ℕ) where
-  -- one that is down and not taken
+  -- a pipe that is down and not taken
   pub untaken_off : (past : List Entry) → AreAllowed z past → has (untaken past) p ≡ true → IsOff false past p
   untaken_off [] a h = cc
   untaken_off (Up q place name ∷ past) a h =

@@ -22,7 +22,7 @@ use Rattle.sp_ends.proofs.TurnParts.{down_off}
 use Rattle.sp_ends.proofs.LeavingAll.{named_place}
 use Rattle.sp_ends.proofs.LeavingWires.{NamedSo, named_so, carried_by, at_link, at_lanes, LeftBy}
 
--- what a link shows that a pipe had that is down
+-- what the link of a pipe that is down shows
 pub record IsLeft (z : Setting) (start : Beginning) (net : NetView) (h : List (Turn Entry)) (p : ℕ) (link : LinkView) : Type 0 where
   pub is_place : place_of (past_of h) p ≡ Some link.place
   pub inside : link.place < net.opened

@@ -56,7 +56,7 @@ dialers_both (a ∷ xs) [] zs x y = absurd x
 dialers_both [] [] (c ∷ zs) x y = absurd y
 dialers_both (a ∷ xs) (b ∷ ys) [] x y = absurd y
 
--- none is lost
+-- no dialer is lost
 pub dialers_long : (ds es : List Dialer) → AreSameDialers ds es → length es ≡ length ds
 dialers_long [] [] x = refl
 dialers_long (d ∷ ds) (e ∷ es) x = ap suc (dialers_long ds es x.1)
@@ -165,7 +165,7 @@ module _ {L : Type 0} where
   serves_both a b c n m o s t u x y =
       record { ends = ends_both a b c x.ends y.ends; dialers = dialers_both a.dialers b.dialers c.dialers x.dialers y.dialers; counts = counts_both n m o x.counts y.counts; quietly = quiet_both s t u x.quietly y.quietly; lanes = lanes_both s t u x.lanes y.lanes }
 
-  -- ---- On in the turn
+  -- ---- Further in the turn
 
   pub turn_on : (seen : L → LinkView) (start : Beginning) (old new : LinkEndsView L) (net net' : NetView) (time k k' : ℕ) (a b : SingleView) → SameEnds old new → Quietly a b → IsSound b → InTurn seen start old net a time k → LinksStand seen b.setting start b.seen net' new.newcomers k' → InTurn seen start new net' b time k'
   turn_on seen start old new net net' time k k' a b same quiet sound i links =
@@ -200,7 +200,7 @@ module _ {L : Type 0} where
   turn_with seen start n rest old new net time k k' a first is one i =
       subst (λ (e : LinkEndsView L). InTurnWith seen start n e net a time k') (sym is) (record { role = i.role; links = subst (λ (m : ℕ). LinksStand seen a.setting start a.seen net (n ∷ rest) m) one (subst (λ (ns : List (Newcomer L)). LinksStand seen a.setting start a.seen net ns k) first i.links); of_run = record { listens = i.of_run.listens; dials = i.of_run.dials; dice = i.of_run.dice }; now_is = i.now_is; ticked = i.ticked; sound = i.sound })
 
-  -- what became of it
+  -- its fate
   pub turn_after : (seen : L → LinkView) (start : Beginning) (n : Newcomer L) (old new : LinkEndsView L) (net net' : NetView) (time k k' : ℕ) (a b : SingleView) → SameEnds old new → Quietly a b → IsSound b → InTurnWith seen start n old net a time k → LinksStand seen b.setting start b.seen net' new.newcomers k' → InTurn seen start new net' b time k'
   turn_after seen start n old new net net' time k k' a b same quiet sound i links =
       record { role = same.role ∙ (i.role ∙ ap (λ (z : Setting). z.role) (sym quiet.setting)); links = links; of_run = of_run_on start.origins old new same i.of_run; now_is = quiet_now time a b quiet i.now_is; ticked = subst (λ (ts : List ℕ). 0 < length ts) (sym (quiet_ticks a b quiet)) i.ticked; sound = sound }
@@ -209,7 +209,7 @@ module _ {L : Type 0} where
   pub ends_others : (a b : LinkEndsView L) (ns : List (Newcomer L)) → b ≡ record a { newcomers = ns } → SameEnds a b
   ends_others a b ns is = subst (SameEnds a) (sym is) (record { role = refl; dice = refl; listeners = refl; dials = refl })
 
-  -- some newcomers less
+  -- with fewer newcomers
   pub serves_less : (old new : LinkEndsView L) (net : NetView) (s : SingleView) (rest : List (Newcomer L)) → new ≡ record old { newcomers = rest } → Serves old new net net s s
   serves_less old new net s rest is =
       subst (λ (e : LinkEndsView L). Serves old e net net s s) (sym is) (record { ends = record { role = refl; dice = refl; listeners = refl; dials = refl }; dialers = same_dialers old.dialers; counts = counts_none net; quietly = quiet_none s; lanes = lanes_none s })

@@ -1,4 +1,4 @@
--- What a whole turn makes of the names.
+-- What a whole turn does to the names.
 use Rattle.std.proofs.Common.{◌≡◌, refl, ap, sym, ◌∙◌, subst, List, [], ◌∷◌, ℕ, ◌+◌, ◌*◌, ◌≤◌, ◌<◌, Bool, true, false, arith, length, Option, Some, None, inl, inr, eq-eqb, eqb-true}
 use Rattle.std.specs.Prelude.{◌==◌, ◌⊎◌, ⊤}
 use Rattle.turn_lock.specs.declared.turn.Turn.{Turn}
@@ -195,7 +195,7 @@ turns_lanes now role first listened a b c d e r s t xs ys ws q n same takes dial
   brings = brings;
 }
 
--- of as many names
+-- for as many names
 pub accepts_for : (a b : SingleView) (r t : Registry) (ms ns : List (List ℕ)) → ms ≡ ns → Accepting (16 * length ms) a b r t → Accepting (16 * length ns) a b r t
 accepts_for a b r t ms ns e x = subst (λ (xs : List (List ℕ)). Accepting (16 * length xs) a b r t) e x
 

@@ -1,4 +1,4 @@
--- What a socket's turns tell of the links.
+-- What a socket's turns show of the links.
 use Rattle.std.proofs.Common.{◌≡◌, refl, ap, sym, ◌∙◌, subst, List, [], ◌∷◌, ◌++◌, ℕ, ◌<◌, Bool, true, false, append_assoc, append-nil, arith}
 use Rattle.std.specs.Prelude.{◌||◌, ◌==◌}
 use Rattle.std.proofs.lemmas.Bool.{ne_eqb}
@@ -35,7 +35,7 @@ use Rattle.sp_ends.proofs.Hands.{hand_waits, hand_missed}
 
 -- ---- Quiet turns
 
--- what settling records moves no play
+-- settling entries are no calls
 pub settles_play : (entries : List Entry) → AreSettling entries → none_of moves_calls entries ≡ true
 settles_play [] h = refl
 settles_play (e ∷ entries) h = rw (one e h.0, settles_play entries h.1) refl
@@ -92,7 +92,7 @@ lanes_none a = ([], sym (append-nil a.seen), refl)
 pub lanes_one : (says : Setting → List (Turn Entry) → Turn Entry → Type 0) (a b : SingleView) (k : TookOne says a b) → none_of is_lane k.turn.entries ≡ true → NoLane a b
 lanes_one says a b k n = (k.turn ∷ [], k.seen, rw n refl)
 
--- quiet turns leave what ticks alone change
+-- quiet turns leave what only ticks change
 quiet_leaves : {A : Type 0} (f : List Entry → A) → ((e : Entry) (past : List Entry) → moves_calls e ≡ false → f (e ∷ past) ≡ f past) → (a b : SingleView) → Quietly a b → f (past_of b.seen) ≡ f (past_of a.seen)
 quiet_leaves f step a b q =
     ap (λ (h : List (Turn Entry)). f (past_of h)) q.silent.1 ∙ (ap f (past_of_more [] a.seen q.silent.0) ∙ turns_leave moves_calls f step q.silent.0 (past_of a.seen) q.silent.2)
@@ -161,7 +161,7 @@ pub missed_lanes : (place : ℕ) (miss : Miss) (a b : SingleView) → TookOne (M
 missed_lanes place miss a b k = lanes_one (MissesAt place miss) a b k (lane_first (NoUp place miss) k.turn k.said refl)
 
 module _ {L : Type 0} (seen : L → LinkView) (start : Beginning) (ns : List (Newcomer L)) (k : ℕ) where
-  -- one that was missed
+  -- a link that was missed
   pub missed_stands : (a b : SingleView) (net net' : NetView) (link : LinkView) (place : ℕ) (miss : Miss) → place ≡ link.place → TookOne (MissesAt place miss) a b → AfterGiveBack (record link { is_open = false }) net net' → IsCauseOf start.origins a.setting a.seen miss link → HandStands seen a.setting start a.seen net ns k link → LinksStand seen b.setting start b.seen net' ns k
   missed_stands a b net net' link place miss is took back cause hand =
       after_one (MissesAt place miss) a b took (λ z h. LinksStand seen z start h net' ns k) (λ l. hand_missed seen a.setting start a.seen ns k net net' took.turn link miss hand cause back (subst (λ (p : ℕ). HasFirst (NoUp p miss) took.turn) is took.said) l)

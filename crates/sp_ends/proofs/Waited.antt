@@ -1,4 +1,4 @@
--- Each link that stays brought nothing or took nothing once.
+-- Each link that stays once brought nothing or took nothing.
 use Rattle.std.proofs.Common.{◌≡◌, ◌≤◌, ◌++◌, ◌∷◌, ℕ, zero, suc, List, [], length, refl, sym, subst, arith, inl, inr, take, drop, length-append}
 use Rattle.std.specs.Prelude.{◌⊎◌}
 use Rattle.std.specs.List.{AllByRecursion}
@@ -29,7 +29,7 @@ module _ {L : Type 0} (seen : L → LinkView) where
       once (inl (few, r)) = inr (rose_once _ _ r)
       once (inr (all, r)) = inl (rose_once _ _ r)
 
-  -- one more behind them
+  -- one more after them
   pub waiting_more : (first : List (Newcomer L)) (opened k : ℕ) (ns : List (Newcomer L)) (n : Newcomer L) → HasWaitedSince seen first opened n → AreWaitingBehind seen first opened k ns → AreWaitingBehind seen first opened k (ns ++ n ∷ [])
   waiting_more first opened k ns n w a = record {
     within = let x = a.within in omega (arith, x, length-append ns (n ∷ []));

@@ -1,4 +1,4 @@
--- The parts of a turn of the ends, put together.
+-- The parts of a turn of the ends, together.
 use Rattle.std.proofs.Common.{◌≡◌, ◌≤◌, ◌+◌, ◌-◌, ◌*◌, ℕ, Bool, true, List, length, refl, sym, ap, subst, ◌∙◌, arith, inl, inr}
 use Rattle.std.specs.Prelude.{◌⊎◌}
 use Rattle.std.specs.FinMap.{get}
@@ -56,7 +56,7 @@ serves_net start ends ends' net net' s s' v n =
 
 -- ---- Wires that are taken one by one
 
--- what stands so far
+-- what holds so far
 pub record StillTakes {L : Type 0} (seen : L → LinkView) (first ends : LinkEndsView L) (net net' : NetView) (s s' : SingleView) (now : ℕ) : Type 0 where
   pub in_turn : (start : Beginning) → InTurn seen start first net s now (length first.newcomers) → InTurn seen start ends net' s' now (length ends.newcomers)
   pub few : length ends.newcomers ≤ length first.newcomers
@@ -99,7 +99,7 @@ module _ {L : Type 0} (seen : L → LinkView) (start : Beginning) (now : ℕ) wh
   pub turn_ends : (ends : LinkEndsView L) (net : NetView) (s : SingleView) → InTurn seen start ends net s now 0 → NetStands start (past_of s.seen) (past_of s.seen) net ends.listeners ends.dialers → EndsStand seen s.setting start s.seen net ends
   turn_ends ends net s i n = record { role = i.role; links = i.links; asked = n; of_run = i.of_run }
 
--- where there was room at the tick there is room to accept
+-- where there was room at the tick, there is room to accept
 pub room_on : {L : Type 0} (ends ends' : LinkEndsView L) (s s' : SingleView) → Quietly s s' → length ends'.newcomers ≤ length ends.newcomers → (has_room (before_last_tick (past_of s.seen)) ≡ true → length ends.newcomers ≤ 192) → has_room (before_last_tick (past_of s'.seen)) ≡ true → length ends'.newcomers ≤ 192
 room_on ends ends' s s' q few was room = let l = was (ap has_room (sym (quiet_before s s' q)) ∙ room) in omega (arith, l, few)
 

@@ -9,11 +9,11 @@ use Rattle.sp_ends.specs.NewcomerSteps.{IsYoung, FateIsYoung, IsOut}
 use Rattle.sp_ends.specs.EndsTurns.{AreYoung}
 
 module _ {L : Type 0} (now : ℕ) where
-  -- none is left but those at the beginning
+  -- none is left except those at the beginning
   pub young_none : (k : ℕ) (ns : List (Newcomer L)) → length ns ≤ k → AreYoung now k ns
   young_none k ns le = subst (AllByRecursion (IsYoung now)) (sym (drop_all k ns le)) tt
 
-  -- one more behind them
+  -- one more after them
   pub young_more : (k : ℕ) (ns : List (Newcomer L)) (n : Newcomer L) → AreYoung now k ns → IsYoung now n → AreYoung now k (ns ++ n ∷ [])
   young_more zero [] n a y = (y, tt)
   young_more zero (m ∷ ns) n a y = (a.0, young_more zero ns n a.1 y)

@@ -1,4 +1,4 @@
--- One end more.
+-- One more end.
 use Rattle.std.specs.Prelude.{◌≡◌, ◌≤◌, ◌+◌, ◌++◌, ℕ, [], ◌∷◌, Some, None, Result, Ok, Err}
 use Rattle.std.specs.FinMap.{get, insert}
 use Rattle.sp_base.specs.Outside.{Rose}
@@ -27,14 +27,14 @@ pub record ListensAt (at : ℕ) (scheme : Scheme) (old new : NetView) : Type 0 w
   pub faults : old.faults ≤ new.faults
   pub idles : new.idles ≡ old.idles
 
--- the net failed to
+-- the net failed to listen
 pub record FailsToListen (old new : NetView) : Type 0 where
   pub untouched : Untouched old new
   pub fault : Rose old.faults new.faults
   pub later : old.faults ≤ new.faults
   pub idles : new.idles ≡ old.idles
 
--- one listener more, or none and why
+-- one more listener, or none and why
 abbrev pub ListensLink : {L : Type 0} → Result (Unit {0}) EndError → Addr → LinkEndsView L → LinkEndsView L → NetView → NetView → Type 0
 ListensLink (Ok done) addr old new net net' =
     (l : Listener) × (l.addr ≡ addr) × (new ≡ record old { listeners = old.listeners ++ l ∷ [] }) × ListensAt l.at (scheme_of addr) net net'
@@ -50,7 +50,7 @@ pub record IsNewDialer (addr : Addr) (d : Dialer) : Type 0 where
   pub place : d.place ≡ None
   pub tries : d.tries ≡ 0
 
--- one dialer more, or none when out of memory
+-- one more dialer, or none when out of memory
 abbrev pub DialsLink : {L : Type 0} → Result (Unit {0}) EndError → Addr → LinkEndsView L → LinkEndsView L → Type 0
 DialsLink (Ok done) addr old new = (d : Dialer) × IsNewDialer addr d × (new ≡ record old { dialers = old.dialers ++ d ∷ [] })
 DialsLink (Err errors.Fault) addr old new = ⊥

@@ -7,14 +7,14 @@ use Rattle.sp_history.specs.Past.{now}
 use Rattle.sp_ends.specs.declared.dialer.Dialer.{Dialer}
 use Rattle.sp_ends.specs.DialMoments.{moment}
 
--- the net was asked for it once more; it may be asked again from this moment on, and this is its link
+-- the net was asked for it once more; `from` is the moment from which it may be asked again, and `link` is its link
 pub record HasTried (from link : Option ℕ) (old new : Dialer) : Type 0 where
   pub addr : new.addr ≡ old.addr
   pub next : new.next ≡ from
   pub place : new.place ≡ link
   pub tries : new.tries ≡ min (old.tries + 1) (2 ^ 64 - 1)
 
--- while a connection is under way it may be asked for at the next tick; behind the end of a try comes the pause
+-- while a connection is under way it may be asked for at the next tick; after the end of a try comes the pause
 abbrev pub next_after : {L : Type 0} → Linked L → ℕ → Option ℕ
 next_after linked.Begun now = Some now
 next_after (linked.Got link) now = moment (now + 100)
@@ -28,7 +28,7 @@ place_after seen linked.NotYet = None
 place_after seen linked.Begun = None
 place_after seen linked.Failed = None
 
--- the dialer is the same, but for the link that it has lost
+-- the dialer is the same, except for the link that it has lost
 pub record IsSameDialer (old new : Dialer) : Type 0 where
   pub addr : new.addr ≡ old.addr
   pub tries : new.tries ≡ old.tries
@@ -38,7 +38,7 @@ pub record IsSameDialer (old new : Dialer) : Type 0 where
 abbrev pub IsFree : ℕ → Dialer → Type 0
 IsFree now d = (d.place ≡ None) × (d.next ≡ moment (now + 100))
 
--- a connection of the dialer is under way, so that it may be asked for it at the next tick
+-- a connection of the dialer is under way, so it may be asked for at the next tick
 abbrev pub IsUnderWay : ℕ → Dialer → Type 0
 IsUnderWay now d = (d.place ≡ None) × (d.next ≡ Some now)
 

@@ -9,12 +9,12 @@ use Rattle.sp_ends.specs.declared.listener.Listener.{Listener}
 use Rattle.sp_links.specs.Origins.{Origins}
 use Rattle.sp_lane.specs.Registry.{names}
 
--- what stood when the run began: the net, and where the links come from
+-- what there was when the run began: the net, and where the links come from
 pub record Beginning : Type 0 where
   pub net : NetView
   pub origins : Origins
 
--- what contracts see of the ends over links: the own role, the number from which the keys are made and how many links of
+-- what contracts see of the ends over links: the role, the number from which the keys are made and how many links of
 -- WebSocket were dialed, the listeners, the addresses that are dialed, and the links that are being opened
 pub record LinkEndsView (L : Type 0) : Type 0 where
   pub role : Role
@@ -24,7 +24,7 @@ pub record LinkEndsView (L : Type 0) : Type 0 where
   pub dialers : List Dialer
   pub newcomers : List (Newcomer L)
 
--- the same of the names within the process: those that are listened on, and those that are dialed
+-- the same for the names within the process: those that are listened on, and those that are dialed
 pub record NamesView : Type 0 where
   pub names : List (List ℕ)
   pub callers : List NameDialer

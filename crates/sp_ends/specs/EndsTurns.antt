@@ -29,14 +29,14 @@ use Rattle.sp_ends.specs.SocketSteps.{Quietly, NoLane, IsDry}
 use Rattle.sp_ends.specs.DialerSteps.{IsSameDialer, IsFree, IsUnderWay}
 use Rattle.sp_ends.specs.NewcomerSteps.{IsYoung, HasWaitedOn}
 
--- since the last tick nobody was greeted, accepted or dialed yet
+-- since the last tick nothing was greeted, accepted or dialed yet
 pub record EndsTicked {L : Type 0} (seen : L → LinkView) (z : Setting) (start : Beginning) (h : List (Turn Entry)) (net : NetView) (ends : LinkEndsView L) : Type 0 where
   pub role : ends.role ≡ z.role
   pub links : LinksStand seen z start h net ends.newcomers (length ends.newcomers)
   pub asked : NetStands start (before_last_tick (past_of h)) (before_last_tick (past_of h)) net ends.listeners ends.dialers
   pub of_run : AreOfRun start.origins ends
   pub ticked : 0 < length (ticks (past_of h))
-  -- where there was room at the tick, not more are to be greeted
+  -- where there was room at the tick, no more are to be greeted
   pub room : has_room (before_last_tick (past_of h)) ≡ true → length ends.newcomers ≤ 192
 
 -- each pipe that was down and not taken is taken
@@ -46,14 +46,14 @@ AllTaken old new = (p : ℕ) → has (untaken (past_of old.seen)) p ≡ true →
 abbrev pub addrs_of : List Dialer → List Addr
 addrs_of ds = map (λ (d : Dialer). d.addr) ds
 
--- the same ends, but for their links and what dialers know of theirs
+-- the same ends, except for their links and what dialers know of theirs
 pub record SameEnds {L : Type 0} (old new : LinkEndsView L) : Type 0 where
   pub role : new.role ≡ old.role
   pub dice : new.dice ≡ old.dice
   pub listeners : new.listeners ≡ old.listeners
   pub dials : addrs_of new.dialers ≡ addrs_of old.dialers
 
--- within a turn of the ends, where so many links are still to be greeted
+-- within a turn of the ends, where k links are still to be greeted
 pub record InTurn {L : Type 0} (seen : L → LinkView) (start : Beginning) (ends : LinkEndsView L) (net : NetView) (s : SingleView) (now : ℕ) (k : ℕ) : Type 0 where
   pub role : ends.role ≡ s.setting.role
   pub links : LinksStand seen s.setting start s.seen net ends.newcomers k
@@ -62,7 +62,7 @@ pub record InTurn {L : Type 0} (seen : L → LinkView) (start : Beginning) (ends
   pub ticked : 0 < length (ticks (past_of s.seen))
   pub sound : IsSound s
 
--- the same with this link before the newcomers
+-- the same, with this link before the newcomers
 pub record InTurnWith {L : Type 0} (seen : L → LinkView) (start : Beginning) (n : Newcomer L) (ends : LinkEndsView L) (net : NetView) (s : SingleView) (now : ℕ) (k : ℕ) : Type 0 where
   pub role : ends.role ≡ s.setting.role
   pub links : LinksStand seen s.setting start s.seen net (n ∷ ends.newcomers) (suc k)
@@ -79,7 +79,7 @@ pub record Serves {L : Type 0} (old new : LinkEndsView L) (net net' : NetView) (
   pub quietly : Quietly s s'
   pub lanes : NoLane s s'
 
--- the same ends, but for the dialers that have lost their link
+-- the same ends, except for the dialers that have lost their link
 pub record SameButPlaces {L : Type 0} (old new : LinkEndsView L) : Type 0 where
   pub ends : new ≡ record old { dialers = new.dialers }
   pub dialers : AreSameDialers old.dialers new.dialers
@@ -100,7 +100,7 @@ pub record HasDialed (now : ℕ) (same : Type 0) (old new : Dialer) : Type 0 whe
   pub tries : new.tries ≡ min (old.tries + 1) (2 ^ 64 - 1)
   pub next : same → IsFree now new ⊎ IsUnderWay now new
 
--- the dialer at this place has, and the others are the same but for the links that they have lost
+-- the dialer at this place has tried once more, and the others are the same, except for the links that they have lost
 abbrev pub DialsOne : ℕ → ℕ → Type 0 → List Dialer → List Dialer → Type 0
 DialsOne i now same [] [] = ⊤
 DialsOne zero now same (d ∷ ds) (e ∷ es) = HasDialed now same d e × AreSameDialers ds es
@@ -110,7 +110,7 @@ DialsOne _ now same _ _ = ⊥
 abbrev pub DialsAt : ℕ → ℕ → NetView → NetView → List Dialer → List Dialer → Type 0
 DialsAt i now old new ds es = DialsOne i now (new.opened ≡ old.opened) ds es
 
--- how many of the dialers are due
+-- the number of dialers that are due
 abbrev pub dues_of : ℕ → List Dialer → ℕ
 dues_of now [] = 0
 dues_of now (d ∷ ds) = if is_due now d then dues_of now ds + 1 else dues_of now ds
@@ -121,13 +121,13 @@ abbrev pub AsksAll : {L : Type 0} → ℕ → LinkEndsView L → NetView → Net
 AsksAll now ends old new =
     CanRise new.idles → CanRise new.faults → sum_of old + open_of (length ends.listeners) ends.newcomers + dues_of now ends.dialers ≤ sum_of new
 
--- those that a listener brought made no more than 256 of it in progress, and each dial made one more at most
+-- the links that a listener brought made no more than 256 of its own in progress, and each dial made at most one more
 pub record FewInProgress {L : Type 0} (old new : LinkEndsView L) : Type 0 where
   pub listeners : (i n : ℕ) → 256 ≤ n → own_of i old.newcomers ≤ n → own_of i new.newcomers ≤ n
   pub dialers : dialed_of new.newcomers ≤ dialed_of old.newcomers + length old.dialers
 
--- What was asked of the net for links, where each link counts once, and each result that there is none, and each fault, as often
--- as a listener is asked in a turn
+-- How often the net was asked for links, where each link counts once, and each result that there is none, and each
+-- fault, as often as a listener is asked in a turn
 abbrev pub asks_of : NetView → ℕ
 asks_of net = 16 * (net.idles + net.faults) + net.opened
 
@@ -141,7 +141,7 @@ AsksEach now ends old new =
 abbrev pub AsksDue : ℕ → List Dialer → NetView → NetView → Type 0
 AsksDue now ds old new = CanRise new.idles → CanRise new.faults → sum_of old + dues_of now ds ≤ sum_of new
 
--- the same of all, but for so many at the beginning
+-- the same for all, except the first k
 abbrev pub AreYoung : {L : Type 0} → ℕ → ℕ → List (Newcomer L) → Type 0
 AreYoung now k ns = AllByRecursion (IsYoung now) (drop k ns)
 
@@ -151,22 +151,22 @@ abbrev pub IsOneOf : {L : Type 0} → List (Newcomer L) → Newcomer L → Type 
 IsOneOf [] n = ⊥
 IsOneOf (m ∷ ms) n = (n ≡ m) ⊎ IsOneOf ms n
 
--- it is one of those that were in progress first, or was handed out since
+-- it is one of those that were in progress at first, or was handed out since
 abbrev pub IsFirstOrNew : {L : Type 0} → (L → LinkView) → List (Newcomer L) → ℕ → Newcomer L → Type 0
 IsFirstOrNew seen first opened n = IsOneOf first n ⊎ (opened ≤ (seen n.opening.link).place)
 
--- since it was one of the first, or was handed out, it brought nothing or took nothing once
+-- since it was one of the first, or was handed out, it once brought nothing or took nothing
 abbrev pub HasWaitedSince : {L : Type 0} → (L → LinkView) → List (Newcomer L) → ℕ → Newcomer L → Type 0
 HasWaitedSince {L} seen first opened n =
     ((m : Newcomer L) × IsOneOf first m × HasWaitedOn seen m n) ⊎ ((opened ≤ (seen n.opening.link).place) × ((1 ≤ (seen n.opening.link).idles) ⊎ (1 ≤ (seen n.opening.link).stalls)))
 
--- so many at the beginning are still to be greeted; each other has waited
+-- the first k are still to be greeted; each other one has waited
 pub record AreWaitingBehind {L : Type 0} (seen : L → LinkView) (first : List (Newcomer L)) (opened k : ℕ) (ns : List (Newcomer L)) : Type 0 where
   pub within : k ≤ length ns
   pub ungreeted : AllByRecursion (IsFirstOrNew seen first opened) (take k ns)
   pub rest : AllByRecursion (HasWaitedSince seen first opened) (drop k ns)
 
--- the listeners from the one place of the list to the other were asked, and brought so many links at most
+-- the listeners from one place of the list to the other were asked, and brought at most `most` links
 pub record HasAsked {L : Type 0} (seen : L → LinkView) (first last most : ℕ) (old new : LinkEndsView L) (net net' : NetView) (s s' : SingleView) (now : ℕ) (is_dry : Bool) : Type 0 where
   pub in_turn : (start : Beginning) → InTurn seen start old net s now 0 → InTurn seen start new net' s' now 0
   pub ends : SameEnds old new
@@ -195,19 +195,19 @@ pub record HasAskedOne {L : Type 0} (seen : L → LinkView) (i : ℕ) (old new :
   pub rose : CanRise net'.idles → CanRise net'.faults → sum_of net + one_open i old.newcomers ≤ sum_of net'
   pub filled : CanRise net'.idles → CanRise net'.faults → asks_of net + asks_one i (net'.opened - net.opened) old.newcomers ≤ asks_of net'
 
--- so were the first listeners
+-- the first i listeners were asked like this
 pub record HasAskedTo {L : Type 0} (seen : L → LinkView) (i : ℕ) (old new : LinkEndsView L) (net net' : NetView) (s s' : SingleView) (now : ℕ) (is_dry : Bool) : Type 0 where
   pub asked : HasAsked seen 0 i (16 * i) old new net net' s s' now is_dry
   pub rose : CanRise net'.idles → CanRise net'.faults → sum_of net + open_of i old.newcomers ≤ sum_of net'
   pub filled : CanRise net'.idles → CanRise net'.faults → asks_of net + asks_to i (net'.opened - net.opened) old.newcomers ≤ asks_of net'
 
--- the same way, where there is room for one link more
+-- the same way, where there is room for one more link
 abbrev pub FitsIn : {L : Type 0} → Result Way NoMemory → Result Way NoMemory → LinkEndsView L → Type 0
 FitsIn way result ends = IfOk result (λ w. (way ≡ Ok w) × (length ends.newcomers < room_for (length ends.listeners)))
 
 -- ---- A link that is new
 
--- a link that was handed out begins in a known way; this is the way, unless out of memory
+-- a link that was handed out begins in a known way; `way` is that way, unless out of memory
 pub record Arrives (o : Origins) (link : LinkView) (way : Result Way NoMemory) (old new : NetView) : Type 0 where
   pub begins : Way
   pub is : IfOk way (λ w. w ≡ begins)
@@ -215,7 +215,7 @@ pub record Arrives (o : Origins) (link : LinkView) (way : Result Way NoMemory) (
   pub can : CanBegin begins
   pub handed : IsHandedOut link (Some (scheme_for begins)) old new
 
--- how many links of WebSocket were dialed, once one of this scheme was
+-- the number of WebSocket links that were dialed, once one of this scheme was
 abbrev pub asked_after : Scheme → ℕ → ℕ
 asked_after schemes.Tcp asked = asked
 asked_after schemes.Ws asked = min (asked + 1) (2 ^ 64 - 1)
@@ -226,7 +226,7 @@ asked_after schemes.Inproc asked = asked
 abbrev pub HaveTicked : {L : Type 0} → (L → LinkView) → SingleView → NetView → LinkEndsView L → Type 0
 HaveTicked seen s net ends = (start : Beginning) × EndsTicked seen s.setting start s.seen net ends
 
--- ends that have ticked stand between two rounds again
+-- ends that have ticked are again as between two rounds
 abbrev pub StandAgain : {L : Type 0} → (L → LinkView) → SingleView → SingleView → NetView → NetView → LinkEndsView L → LinkEndsView L → Type 0
 StandAgain seen s s' net net' old new =
     (start : Beginning) → EndsTicked seen s.setting start s.seen net old → EndsStand seen s'.setting start s'.seen net' new
@@ -234,12 +234,12 @@ StandAgain seen s s' net net' old new =
 abbrev pub IsInTurn : {L : Type 0} → (L → LinkView) → LinkEndsView L → NetView → SingleView → ℕ → ℕ → Type 0
 IsInTurn seen ends net s now k = (start : Beginning) × InTurn seen start ends net s now k
 
--- within the turn, with so many links that are still to be greeted before and after
+-- within the turn, with k links that are still to be greeted before it and k' after it
 abbrev pub TurnGoesOn : {L : Type 0} → (L → LinkView) → ℕ → LinkEndsView L → LinkEndsView L → NetView → NetView → SingleView → SingleView → ℕ → ℕ → Type 0
 TurnGoesOn seen now old new net net' s s' k k' =
     (start : Beginning) → InTurn seen start old net s now k → InTurn seen start new net' s' now k'
 
--- the same where all are still to be greeted
+-- the same, where all are still to be greeted
 abbrev pub UngreetedGoOn : {L : Type 0} → (L → LinkView) → ℕ → LinkEndsView L → LinkEndsView L → NetView → NetView → SingleView → SingleView → Type 0
 UngreetedGoOn seen now old new net net' s s' =
     TurnGoesOn seen now old new net net' s s' (length old.newcomers) (length new.newcomers)
@@ -249,7 +249,7 @@ abbrev pub AreToBeAsked : {L : Type 0} → (L → LinkView) → LinkEndsView L �
 AreToBeAsked seen ends net s now =
     (start : Beginning) × InTurn seen start ends net s now (length ends.newcomers) × NetStands start (before_last_tick (past_of s.seen)) (before_last_tick (past_of s.seen)) net ends.listeners ends.dialers
 
--- they were, and the ends stand between two rounds
+-- they were asked and dialed, and the ends are as between two rounds
 abbrev pub AskedStand : {L : Type 0} → (L → LinkView) → ℕ → LinkEndsView L → LinkEndsView L → NetView → NetView → SingleView → SingleView → Type 0
 AskedStand seen now old new net net' s s' =
     (start : Beginning) → InTurn seen start old net s now (length old.newcomers) → NetStands start (before_last_tick (past_of s.seen)) (before_last_tick (past_of s.seen)) net old.listeners old.dialers → EndsStand seen s'.setting start s'.seen net' new
@@ -267,13 +267,13 @@ DialedStand seen now old new net net' s s' =
 abbrev pub CountsRise : NetView → NetView → Type 0
 CountsRise old new = (old.idles ≤ new.idles) × (old.faults ≤ new.faults) × (old.opened ≤ new.opened)
 
--- whichever were in progress first, and from whichever place on links are new, not above this one: all waited before, and all
--- have waited now
+-- whichever links were in progress at first, and from whichever place up to `most` on links are new: all waited before,
+-- and all have waited now
 abbrev pub WaitOn : {L : Type 0} → (L → LinkView) → ℕ → List (Newcomer L) → List (Newcomer L) → Type 0
 WaitOn {L} seen most old new =
     (first : List (Newcomer L)) (opened : ℕ) → opened ≤ most → AreWaitingBehind seen first opened 0 old → AreWaitingBehind seen first opened 0 new
 
--- the same where this one was the first of them
+-- the same, where this one was the first of them
 abbrev pub WaitWith : {L : Type 0} → (L → LinkView) → Newcomer L → List (Newcomer L) → List (Newcomer L) → Type 0
 WaitWith {L} seen n old new =
     (first : List (Newcomer L)) (opened k : ℕ) → IsFirstOrNew seen first opened n → AreWaitingBehind seen first opened k old → AreWaitingBehind seen first opened k new

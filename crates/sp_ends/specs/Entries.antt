@@ -1,4 +1,4 @@
--- Rules of a history's entries, and turns that leave something as it is.
+-- Rules of a history's entries, and turns that leave something unchanged.
 use Rattle.std.specs.Prelude.{◌≡◌, Bool, true, false, ◌&&◌, IsTrue, List, [], ◌∷◌, ◌++◌}
 use Rattle.std.specs.List.{list_all}
 use Rattle.turn_lock.specs.declared.turn.Turn.{Turn}
@@ -26,7 +26,7 @@ moves_calls (Ctx c gate) = true
 moves_calls (Close totals) = true
 moves_calls _ = false
 
--- with the entry a link is handed out, comes up, is missed or is taken, or the moment comes
+-- by the entry a link is handed out, comes up, is missed or is taken, or the moment comes
 abbrev pub moves_ends : Entry → Bool
 moves_ends (Up p place name) = true
 moves_ends (Met place) = true
@@ -35,6 +35,6 @@ moves_ends (Taken p) = true
 moves_ends (Tick t due) = true
 moves_ends _ = false
 
--- the history has turns more, and no entry of them is one of these
+-- the history has further turns, and none of their entries is one of these
 abbrev pub AddsNone : (Entry → Bool) → List (Turn Entry) → List (Turn Entry) → Type 0
 AddsNone moves h h' = (turns : List (Turn Entry)) × (h' ≡ h ++ turns) × IsTrue (list_all (λ (t : Turn Entry). none_of moves t.entries) turns)

@@ -1,4 +1,4 @@
--- The errors of NNG that the refusals of ends are.
+-- The NNG errors for the refusals of ends.
 use Rattle.sp_base.specs.declared.error.SpError.{SpError}
 use Rattle.sp_base.specs.declared.error.SpError.TheVariants as e
 use Rattle.sp_ends.specs.declared.error.EndError.{EndError}

@@ -1,4 +1,4 @@
--- What becomes of dialers whose links come back, and of those that are dialed.
+-- The fate of dialers whose links come back, and of those that are dialed.
 use Rattle.std.specs.Prelude.{◌≡◌, ◌≤◌, ◌<◌, ◌+◌, ◌*◌, ◌⊎◌, ℕ, ⊤, List, [], ◌∷◌, Some, None, zero, suc}
 use Rattle.std.specs.List.{AllByRecursion}
 use Rattle.std.specs.FinMap.{get}
@@ -8,13 +8,13 @@ use Rattle.sp_ends.specs.declared.dialer.Dialer.{Dialer}
 use Rattle.sp_ends.specs.DialMoments.{IsDueAt}
 use Rattle.sp_ends.specs.DialerSteps.{IsSameDialer, IsFree, IsUnderWay, IsFreed}
 
--- one by one
+-- the dialers are the same, one by one
 abbrev pub AreSameDialers : List Dialer → List Dialer → Type 0
 AreSameDialers [] [] = ⊤
 AreSameDialers (d ∷ ds) (e ∷ es) = IsSameDialer d e × AreSameDialers ds es
 AreSameDialers _ _ = ⊥
 
--- one by one
+-- the dialers are freed, one by one
 abbrev pub AreFreed : ℕ → ℕ → List Dialer → List Dialer → Type 0
 AreFreed now place [] [] = ⊤
 AreFreed now place (d ∷ ds) (e ∷ es) = IsFreed now place d e × AreFreed now place ds es
@@ -22,7 +22,7 @@ AreFreed now place _ _ = ⊥
 
 -- ---- Links that come back
 
--- its link isn't back, where it was not
+-- its link isn't back, if it was not before
 abbrev pub KeepsLink : NetView → NetView → Dialer → Type 0
 KeepsLink old new d = (place : ℕ) → d.place ≡ Some place → get old.back place ≡ None → get new.back place ≡ None
 
@@ -34,7 +34,7 @@ WasFreed now new d e = (place : ℕ) × (d.place ≡ Some place) × (get new.bac
 abbrev pub FreesOne : ℕ → NetView → NetView → Dialer → Dialer → Type 0
 FreesOne now old new d e = ((e ≡ d) × KeepsLink old new d) ⊎ WasFreed now new d e
 
--- one by one
+-- the dialers are freed where their links came back, one by one
 abbrev pub FreesAll : ℕ → NetView → NetView → List Dialer → List Dialer → Type 0
 FreesAll now old new [] [] = ⊤
 FreesAll now old new (d ∷ ds) (e ∷ es) = FreesOne now old new d e × FreesAll now old new ds es
@@ -78,7 +78,7 @@ HasLink place (d ∷ ds) = (d.place ≡ Some place) ⊎ HasLink place ds
 abbrev pub KnowsLinks : ℕ → NetView → List Dialer → Type 0
 KnowsLinks first net ds = (place : ℕ) → first ≤ place → place < net.opened → HasLink place ds ⊎ (get net.back place ≡ None → ⊥)
 
--- the listeners brought 16 links each at most; every other that was handed out is a dialer's, or is back
+-- the listeners brought at most 16 links each; every other link that was handed out is a dialer's, or is back
 abbrev pub KnowsDialed : ℕ → NetView → NetView → List Dialer → Type 0
 KnowsDialed listeners old new ds = (first : ℕ) × (first ≤ old.opened + 16 * listeners) × KnowsLinks first new ds
 
@@ -100,6 +100,6 @@ pub record Turns (now : ℕ) (old new : NetView) (ds es : List Dialer) : Type 0 
   pub net : GotBack old new
   pub dialers : TurnsAll now old new ds es
 
--- none is due, but those with a connection under way
+-- none is due, except those with a connection under way
 abbrev pub AreWaiting : ℕ → List Dialer → Type 0
 AreWaiting now ds = AllByRecursion (λ d. IsDue now d → IsUnderWay now d) ds

@@ -1,4 +1,4 @@
--- What stands on the links of a run that is over.
+-- What holds of the links of a run that is over.
 use Rattle.std.specs.Prelude.{◌≡◌, ◌≢◌, ◌≤◌, ◌<◌, ◌^◌, ℕ, true, IsTrue, List, length, Some}
 use Rattle.turn_lock.specs.declared.turn.Turn.{Turn}
 use Rattle.sp_base.specs.Views.{NetView, LinkView}
@@ -24,7 +24,7 @@ use Rattle.sp_links.specs.declared.wire.EndWire.{EndWire}
 abbrev pub ClosedCleared : List Entry → Type 0
 ClosedCleared past = (p : ℕ) → down_for past p ≡ Some whys.Closed → is_cleared past p ≡ true
 
--- all links are back, and what is said of them stands
+-- all links are back, and what is said about them holds
 pub record LinksLeft (z : Setting) (start : Beginning) (h : List (Turn Entry)) (net : NetView) : Type 0 where
   pub records : IsTrue (each times_out_rightly (past_of h)) → Records (run_ways z.role start.origins) z max_body start.net.opened net.opened net.back h
   pub others : KeepsOthers start.net net
@@ -32,12 +32,12 @@ pub record LinksLeft (z : Setting) (start : Beginning) (h : List (Turn Entry)) (
   pub read : (p place : ℕ) → place_of (past_of h) p ≡ Some place → place ≢ lane_place → place < net.opened → IsBack net.back place (IsRead h p)
   pub whole : ClosedCleared (past_of h) → AreWhole z net (past_of h)
 
--- the ends stand for a history whose wires these are
+-- the ends stand for a history with these wires
 abbrev pub StandWithWires : {L : Type 0} → (L → LinkView) → NetView → LinkEndsView L → List (DownPipe (EndWire L)) → Type 0
 StandWithWires seen net ends wires =
     (z : Setting) × (start : Beginning) × (h : List (Turn Entry)) × EndsStand seen z start h net ends × HasWires shown wires z (past_of h)
 
--- for each closed history for which they stand, its links are left
+-- for each closed history that they stand for, its links are left
 abbrev pub LeaveLinks : {L : Type 0} → (L → LinkView) → NetView → NetView → LinkEndsView L → List (DownPipe (EndWire L)) → Type 0
 LeaveLinks seen net net' ends wires =
     (z : Setting) (start : Beginning) (h : List (Turn Entry)) → Legal z h → is_closed (past_of h) ≡ true → EndsStand seen z start h net ends → HasWires shown wires z (past_of h) → LinksLeft z start h net'

@@ -14,7 +14,7 @@ use Rattle.sp_ends.specs.LinkRecords.{greeting}
 abbrev pub CanRise : ℕ → Type 0
 CanRise n = n < 2 ^ 64 - 1
 
--- how many ticks came where this held
+-- the number of ticks at which this held
 abbrev pub ticks_where : (List Entry → Bool) → List Entry → ℕ
 ticks_where test [] = 0
 ticks_where test (Tick t due ∷ past) = if test past then ticks_where test past + 1 else ticks_where test past
@@ -24,8 +24,8 @@ ticks_where test (_ ∷ past) = ticks_where test past
 abbrev pub greeting_ticks : List Entry → ℕ → ℕ
 greeting_ticks past place = ticks_where (λ before. has (greeting before) place) past
 
--- while a link was in progress it returned at least once a round, but for one, that nothing was there or that it took
--- nothing
+-- while a link was in progress, it returned at least once a round, except for one round, that nothing was there or that
+-- it took nothing
 abbrev pub IsAsked : List Entry → ℕ → LinkView → Type 0
 IsAsked past place link = CanRise link.idles → CanRise link.stalls → greeting_ticks past place ≤ link.idles + link.stalls + 1
 
@@ -36,7 +36,7 @@ is_idle_turn p t = list_any (is_quiet p) t.entries && (frame_count t.entries p =
 abbrev pub idle_turns : List (Turn Entry) → ℕ → ℕ
 idle_turns record_ p = length (filter (is_idle_turn p) record_)
 
--- such turns, but for one, are as many as the times at which its link had nothing, and its frames, together
+-- the number of such turns is at most one more than how often its link had nothing, together with its frames
 abbrev pub IsRead : List (Turn Entry) → ℕ → LinkView → Type 0
 IsRead record_ p link = CanRise link.idles → idle_turns record_ p ≤ link.idles + length (frames (past_of record_) p) + 1
 
@@ -44,8 +44,8 @@ IsRead record_ p link = CanRise link.idles → idle_turns record_ p ≤ link.idl
 abbrev pub has_room : List Entry → Bool
 has_room past = nat_le (length (greeting past)) 192
 
--- the first tick from this number on, and then each that is at least 100 above the one before: a longest list, of ticks
--- that are in order
+-- the first tick from this number on, and then each that is at least 100 above the one before: a longest such list, for
+-- ticks in order
 abbrev pub spaced_from : ℕ → List ℕ → List ℕ
 spaced_from from [] = []
 spaced_from from (t ∷ ts) = if nat_le from t then t ∷ spaced_from (t + 100) ts else spaced_from from ts

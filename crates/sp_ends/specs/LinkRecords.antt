@@ -1,4 +1,4 @@
--- What stands on the links that a net handed out, by the record of the socket.
+-- What holds of the links that a net handed out, by the record of the socket.
 use Rattle.std.specs.Prelude.{◌≡◌, ◌≢◌, ◌⊎◌, ◌≤◌, ◌<◌, ◌-◌, ◌+◌, ◌^◌, ◌==◌, ℕ, nat_le, nat_lt, Bool, true, false, not, ◌&&◌, ◌||◌, IsTrue, ⊤, if◌then◌else◌, List, [], ◌∷◌, ◌++◌, length, Option, Some, None, is_some, is_none}
 use Rattle.std.specs.List.{list_any}
 use Rattle.std.specs.FinMap.{FinMap, get}
@@ -52,7 +52,7 @@ greeting (Up p place name ∷ past) = without (greeting past) place
 greeting (NoUp place miss ∷ past) = without (greeting past) place
 greeting (_ ∷ past) = greeting past
 
--- a link of the run is met once, and after it comes up or is missed, once; a lane comes up unmet
+-- a link of the run is met once, and after that comes up or is missed, once; a lane comes up unmet
 abbrev pub keeps_places : ℕ → ℕ → List Entry → Entry → Bool
 keeps_places first opened past (Met place) = nat_le first place && nat_lt place opened && is_none (met_at past place)
 keeps_places first opened past (Up p place name) = (place == lane_place) || has (greeting past) place
@@ -64,29 +64,29 @@ abbrev pub Each : (List Entry → Entry → Type 0) → List Entry → Type 0
 Each Rule [] = ⊤
 Each Rule (e ∷ past) = Rule past e × Each Rule past
 
--- the link of the run with this place is back, and this is so of it
+-- the link of the run with this place is back, and this holds of it
 abbrev pub IsBack : FinMap nat_cmp LinkView → ℕ → (LinkView → Type 0) → Type 0
 IsBack back place Fact = (link : LinkView) × (get back place ≡ Some link) × Fact link
 
 -- ---- Links that didn't come up
 
--- attach takes no further pipe: the socket is closed, a pair has one, or too many wait or were numbered
+-- `attach` takes no further pipe: the socket is closed, a pair has one, or too many wait or were numbered
 abbrev pub refuses : Setting → List Entry → Bool
 refuses z past =
     is_closed past || is_pair z.role && not (is_nil (up past)) || nat_le 4096 (length (up past) + length (untaken past)) || nat_le (2 ^ 31 - 1) (ups past)
 
--- when some turn began, the link was in progress and attach would have been refused
+-- when some turn began, the link was in progress and `attach` would have been refused
 abbrev pub WasRefused : Setting → List (Turn Entry) → ℕ → Type 0
 WasRefused z record_ place =
     (early late : List (Turn Entry)) × (record_ ≡ early ++ late) × IsTrue (has (greeting (past_of early)) place) × IsTrue (refuses z (past_of early))
 
--- ten seconds have gone since the link was met
+-- ten seconds have passed since the link was met
 abbrev pub IsLate : List Entry → ℕ → Type 0
 IsLate past place = (t : ℕ) × (met_at past place ≡ Some t) × (t + 10000 ≤ now past)
 
 module _ (ways : Ways) (z : Setting) (record_ : List (Turn Entry)) where
-  -- why a link was missed, by its state when it was given back: its greeting is wrong; it has ended, it has failed or it
-  -- took too long, and it isn't complete; attach was refused; out of memory is free
+  -- why a link was missed, by its state when it was given back: its greeting is wrong; it has ended, it has failed or
+  -- it took too long, and it isn't complete; `attach` was refused; out of memory has no condition
   abbrev pub MissedFor : List Entry → ℕ → Miss → LinkView → ways.Way → Type 0
   MissedFor past place misses.Bad link way = IsSpoilt ways way link
   MissedFor past place misses.Ended link way = (link.ended ≡ true) × ¬ IsComplete ways way link × WroteOrStalled ways way link
@@ -119,9 +119,9 @@ went_down_for_frame z past p = last_is_malformed z past p
 abbrev pub IsDrained : Setting → ℕ → List Entry → ℕ → LinkView → Type 0
 IsDrained z max past p link = Told link.came (λ came. frames past p ≡ shows (peer_number z.role) max came)
 
--- why a pipe over TCP went down: its link has ended, and all that it shows was pulled; its link has failed; its last frame
--- is malformed, or the link shows a message above the limit, and all before it was pulled; never for a refusal; the
--- close and out of memory are free
+-- why a pipe over TCP went down: its link has ended, and all that it shows was pulled; its link has failed; its last
+-- frame is malformed, or the link shows a message above the limit, and all before it was pulled; never for a refusal;
+-- the close and out of memory have no condition
 abbrev pub WentDownFor : Setting → ℕ → List Entry → ℕ → Why → LinkView → Type 0
 WentDownFor z max past p whys.Ended link = (link.ended ≡ true) × IsDrained z max past p link
 WentDownFor z max past p whys.Failed link = 1 ≤ link.faults
@@ -131,7 +131,7 @@ WentDownFor z max past p whys.Refusal link = ⊥
 WentDownFor z max past p whys.Closed link = ⊤
 WentDownFor z max past p whys.NoMemory link = ⊤
 
--- of a pipe over this link: over TCP its texts, and why it went down
+-- for a pipe over this link: over TCP its texts, and why it went down
 pub record IsLinkOf (z : Setting) (max : ℕ) (past : List Entry) (p : ℕ) (link : LinkView) : Type 0 where
   pub texts : link.scheme ≡ schemes.Tcp → Carries z past p link
   pub went_down : link.scheme ≡ schemes.Tcp → (why : Why) → down_for past p ≡ Some why → WentDownFor z max past p why link
@@ -142,7 +142,7 @@ HoldsAll z past p link = (link.scheme ≡ schemes.Tcp) × (link.written ≡ Some
 
 -- ---- Limits, memory, other links
 
--- the most bytes of a body
+-- the maximum length of a body
 abbrev pub max_body : ℕ
 max_body = 1048576
 
@@ -164,7 +164,7 @@ AreWhole z net past =
 
 -- ---- Deadlines
 
--- the operation stood in a due list
+-- the operation was in a due list
 abbrev pub was_due : List Entry → OpName → Bool
 was_due [] op = false
 was_due (Tick t due ∷ past) op = list_any (same_op op) due || was_due past op
@@ -177,16 +177,16 @@ times_out_rightly past _ = true
 
 -- ---- All of it
 
--- what stands on the links that the net handed out in the run: those from `first` on, below `opened`
+-- what holds of the links that the net handed out in the run: those from `first` on, below `opened`
 pub record Records (ways : Ways) (z : Setting) (max first opened : ℕ) (back : FinMap nat_cmp LinkView) (record_ : List (Turn Entry)) : Type 0 where
   -- each is met once, and comes up or is missed at most once; it was given back, shut
   pub places : IsTrue (each (keeps_places first opened) (past_of record_))
   pub few : first < opened → opened ≤ lane_place
   pub met : (place : ℕ) → first ≤ place → place < opened → is_some (met_at (past_of record_) place) ≡ true
   pub given_back : (place : ℕ) → first ≤ place → place < opened → IsBack back place (λ link. (link.place ≡ place) × (link.is_open ≡ false))
-  -- one that was missed has its cause, and one that was left isn't complete
+  -- a link that was missed has its cause, and one that was left isn't complete
   pub missed : Each (HasCause ways z record_ back) (past_of record_)
   pub left_ : (place : ℕ) → has (greeting (past_of record_)) place ≡ true → IsBack back place (IsUndone ways z record_)
-  -- one that came up opened well, and carried its pipe's messages
+  -- a link that came up opened well, and carried its pipe's messages
   pub came_up : (p place : ℕ) → place_of (past_of record_) p ≡ Some place → place ≢ lane_place → place < opened → IsBack back place (λ link. BeganSo ways link (λ way. HasOpened ways way link) × IsLinkOf z max (past_of record_) p link)
   pub due : IsTrue (each times_out_rightly (past_of record_))

@@ -26,7 +26,7 @@ use Rattle.sp_lane.specs.declared.inproc.InprocError.{InprocError}
 abbrev pub IsDueNameDialer : ℕ → NameDialer → Type 0
 IsDueNameDialer now c = (c.pipe ≡ None) × IsDueAt c.next now
 
--- it has no pipe now, and may dial after the pause
+-- it now has no pipe, and may dial after the pause
 abbrev pub IsFreeNameDialer : ℕ → NameDialer → NameDialer → Type 0
 IsFreeNameDialer now old new = new ≡ record old { next = moment (now + 100); pipe = None }
 
@@ -35,7 +35,7 @@ pub record IsLostNameDialer (now pipe : ℕ) (old new : NameDialer) : Type 0 whe
   pub lost : old.pipe ≡ Some pipe → IsFreeNameDialer now old new
   pub others : (old.pipe ≡ Some pipe → ⊥) → new ≡ old
 
--- one by one
+-- the callers that had this pipe are free, one by one
 abbrev pub AreLost : ℕ → ℕ → List NameDialer → List NameDialer → Type 0
 AreLost now pipe [] [] = ⊤
 AreLost now pipe (c ∷ cs) (d ∷ ds) = IsLostNameDialer now pipe c d × AreLost now pipe cs ds
@@ -65,7 +65,7 @@ CallsAll now s s' _ _ = ⊥
 abbrev pub Begins : List (Turn Entry) → List (Turn Entry) → Type 0
 Begins early late = (rest : List (Turn Entry)) × (late ≡ early ++ rest)
 
--- the history goes on, and what is known of its pipes stays
+-- the history goes on, and what is known of its pipes still holds
 pub record GoesOn (s s' : SingleView) : Type 0 where
   pub quietly : Quietly s s'
   pub sound : IsSound s → IsSound s'
@@ -74,33 +74,33 @@ pub record GoesOn (s s' : SingleView) : Type 0 where
   pub ups : ups (past_of s.seen) ≤ ups (past_of s'.seen)
   pub places : (p place : ℕ) → place_of (past_of s.seen) p ≡ Some place → place_of (past_of s'.seen) p ≡ Some place
 
--- all that stands on the ends over links stays
+-- what holds of the ends over links still holds
 abbrev pub KeepsLinks : {L : Type 0} → (L → LinkView) → SingleView → SingleView → Type 0
 KeepsLinks {L} seen s s' =
     (start : Beginning) (net : NetView) (ends : LinkEndsView L) → EndsStand seen s.setting start s.seen net ends → EndsStand seen s'.setting start s'.seen net ends
 
 -- ---- Lanes
 
--- a lane came up, as the next pipe and no other; or attach refused it, and no pipe came up
+-- a lane came up, as the next pipe, and no other pipe did; or `attach` refused it, and no pipe came up
 abbrev pub CameUp : Option ℕ → SingleView → SingleView → Type 0
 CameUp (Some p) s s' = IsNewLane s s' p × (p ≡ ups (past_of s'.seen)) × (ups (past_of s'.seen) ≡ ups (past_of s.seen) + 1)
 CameUp None s s' = (ups (past_of s'.seen) ≡ ups (past_of s.seen)) × ((why : AttachError) × RefusedAttach why s.setting (past_of s.seen))
 
--- a pipe that is new, or none
+-- a new pipe, or none
 abbrev pub HasNewLane : Option ℕ → SingleView → SingleView → Type 0
 HasNewLane (Some p) s s' = IsNewLane s s' p
 HasNewLane None s s' = ⊤
 
 -- ---- Names that are dialed
 
--- the name was dialed in this role, and its lane went to attach
+-- the name was dialed in this role, and its lane went to `attach`
 pub record DialsLane (name : List ℕ) (role : Role) (pipe : Option ℕ) (s s' : SingleView) (reg reg' : Registry) : Type 0 where
   pub wire : LaneWireView
   pub dials : Dials name role (Ok wire) reg reg'
   pub on : GoesOn s s'
   pub came : CameUp pipe s s'
 
--- it was refused: nobody listens, or not in the peer's role, or out of memory
+-- it was refused: there is no listener, or not one in the peer's role, or no memory
 abbrev pub IsRefusedDial : List ℕ → Role → SingleView → SingleView → Registry → Registry → Type 0
 IsRefusedDial name role s s' reg reg' = (why : InprocError) × Dials name role (Err why) reg reg' × (s' ≡ s)
 
@@ -114,12 +114,12 @@ abbrev pub CallsAt : ℕ → ℕ → Role → SingleView → SingleView → Regi
 CallsAt i now role s s' reg reg' old new =
     (c : NameDialer) × (d : NameDialer) × (slice_get old i ≡ Some c) × HasCalled now s s' c d × TriesName c.name role d.pipe s s' reg reg' × (new ≡ slice_set old i d)
 
--- one that is due dialed, and has the pipe that this brought; for any other nothing was done
+-- one that is due dialed, and has the pipe that this brought; for any other one nothing was done
 abbrev pub DialsIfDue : ℕ → Role → SingleView → SingleView → Registry → Registry → NameDialer → NameDialer → Type 0
 DialsIfDue now role s s' reg reg' old new =
     (IsDueNameDialer now old × TriesName old.name role new.pipe s s' reg reg') ⊎ ((IsDueNameDialer now old → ⊥) × (s' ≡ s) × (reg' ≡ reg))
 
--- one after the other: between these nothing else was done with the socket or the names
+-- the callers dial one after another, and nothing else is done with the socket or the names
 abbrev pub DialsDue : ℕ → Role → SingleView → SingleView → Registry → Registry → List NameDialer → List NameDialer → Type 0
 DialsDue now role s s' reg reg' [] [] = (s' ≡ s) × (reg' ≡ reg)
 DialsDue now role s s' reg reg' (c ∷ cs) (d ∷ ds) = (mid : SingleView) × (r : Registry) × DialsIfDue now role s mid reg r c d × DialsDue now role mid s' r reg' cs ds
@@ -127,23 +127,24 @@ DialsDue now role s s' reg reg' _ _ = ⊥
 
 -- ---- Lanes that are accepted
 
--- at a moment between these attach would have been refused so
+-- at a moment between these two, `attach` would have been refused for this cause
 abbrev pub WasRefusedLane : SingleView → SingleView → AttachError → Type 0
 WasRefusedLane s s' why = (mid : List (Turn Entry)) × Begins s.seen mid × Begins mid s'.seen × RefusedAttach why s.setting (past_of mid)
 
--- what became of lanes between these, the last first: each is a new pipe, with a number below this one, or attach refused it
+-- the results for the lanes between these, the last first: each is a new pipe, with a number below this one, or
+-- `attach` refused it
 abbrev pub AreAttached : SingleView → SingleView → ℕ → List (Result ℕ AttachError) → Type 0
 AreAttached s s' below [] = ⊤
 AreAttached s s' below (Ok p ∷ rest) = (p < below) × IsNewLane s s' p × AreAttached s s' p rest
 AreAttached s s' below (Err why ∷ rest) = WasRefusedLane s s' why × AreAttached s s' below rest
 
--- how many of them are pipes
+-- the number of them that are pipes
 abbrev pub pipes_of : List (Result ℕ AttachError) → ℕ
 pipes_of [] = 0
 pipes_of (Ok p ∷ rest) = pipes_of rest + 1
 pipes_of (Err why ∷ rest) = pipes_of rest
 
--- how many halves were dialed and not accepted
+-- the number of halves that were dialed and not accepted
 abbrev pub halves_of : Registry → ℕ
 halves_of [] = 0
 halves_of (l ∷ rest) = length l.halves + halves_of rest
@@ -152,13 +153,13 @@ halves_of (l ∷ rest) = length l.halves + halves_of rest
 abbrev pub HasBrought : ListenerView → ListenerView → Type 0
 HasBrought old new = (new.halves ≡ []) ⊎ (length new.halves + 16 ≤ length old.halves)
 
--- the first with this name did
+-- the first listener with this name brought its halves
 abbrev pub Brings : List ℕ → Registry → Registry → Type 0
 Brings name [] reg' = ⊤
 Brings name (l ∷ reg) [] = ⊥
 Brings name (l ∷ reg) (l' ∷ reg') = (l.name ≡ name → HasBrought l l') × ((l.name ≡ name → ⊥) → Brings name reg reg')
 
--- each of these names did
+-- each of these names brought its halves
 abbrev pub AllBring : List (List ℕ) → Registry → Registry → Type 0
 AllBring listened reg reg' = AllByRecursion (λ name. Brings name reg reg') listened
 
@@ -168,7 +169,8 @@ HasFewer [] [] = ⊤
 HasFewer (l ∷ reg) (l' ∷ reg') = (l'.name ≡ l.name) × (length l'.halves ≤ length l.halves) × HasFewer reg reg'
 HasFewer _ _ = ⊥
 
--- So many lanes at most were accepted. All that were accepted were attached, or attach refused them, and no other pipe came up
+-- At most `most` lanes were accepted. All that were accepted were attached, or `attach` refused them, and no other pipe
+-- came up
 pub record Accepting (most : ℕ) (s s' : SingleView) (reg reg' : Registry) : Type 0 where
   pub accepted : List (Result ℕ AttachError)
   pub attached : AreAttached s s' (ups (past_of s'.seen) + 1) accepted

@@ -1,4 +1,4 @@
--- What becomes of names within the process in a turn of the ends.
+-- What happens to names within the process in a turn of the ends.
 use Rattle.std.specs.Prelude.{◌≡◌, ◌≤◌, ◌<◌, ◌*◌, ◌⊎◌, ℕ, ⊤, true, false, List, [], ◌∷◌, length, Option, Some, None}
 use Rattle.sp_base.specs.declared.role.Role.{Role}
 use Rattle.sp_history.specs.Lists.{has}
@@ -32,17 +32,17 @@ abbrev pub TakesCaller : ℕ → SingleView → SingleView → NameDialer → Na
 TakesCaller now s s' old new =
     (new ≡ old) × ((p : ℕ) → old.pipe ≡ Some p → has (untaken (past_of s.seen)) p ≡ true → ⊥) ⊎ ((p : ℕ) × (old.pipe ≡ Some p) × IsGone s' p × IsFreeNameDialer now old new)
 
--- one by one
+-- each of the callers, one by one
 abbrev pub TakesCallers : ℕ → SingleView → SingleView → List NameDialer → List NameDialer → Type 0
 TakesCallers now s s' [] [] = ⊤
 TakesCallers now s s' (c ∷ cs) (d ∷ ds) = TakesCaller now s s' c d × TakesCallers now s s' cs ds
 TakesCallers now s s' _ _ = ⊥
 
--- it was due, and dialed; or it was not
+-- it was due, and dialed; or it was not due
 abbrev pub TurnsCaller : ℕ → SingleView → SingleView → NameDialer → NameDialer → Type 0
 TurnsCaller now s s' old new = (IsDueNameDialer now old × HasCalled now s s' old new) ⊎ ((IsDueNameDialer now old → ⊥) × TakesCaller now s s' old new)
 
--- one by one
+-- each of the callers, one by one
 abbrev pub TurnsCallers : ℕ → SingleView → SingleView → List NameDialer → List NameDialer → Type 0
 TurnsCallers now s s' [] [] = ⊤
 TurnsCallers now s s' (c ∷ cs) (d ∷ ds) = TurnsCaller now s s' c d × TurnsCallers now s s' cs ds
@@ -61,7 +61,7 @@ pub record TurnsLanes (now : ℕ) (role : Role) (listened : List (List ℕ)) (s 
   pub accepting : Accepting (16 * length listened) called s' dialed reg'
   pub brings : AllBring listened dialed reg'
 
--- the same of ends over links and of names, before and after
+-- the same, in terms of the ends over links and of the names before and after
 abbrev pub LanesTurn : {L : Type 0} → ℕ → LinkEndsView L → NamesView → NamesView → SingleView → SingleView → Registry → Registry → Type 0
 LanesTurn now old names names' s s' reg reg' =
     TurnsLanes now old.role names.names s s' reg reg' names.callers names'.callers

@@ -1,4 +1,4 @@
--- What becomes of a link in its greetings.
+-- The fate of a link in its greetings.
 use Rattle.std.specs.Prelude.{◌≡◌, ◌≤◌, ◌<◌, ◌+◌, ◌++◌, ℕ, ⊤, Bool, true, false, List, [], ◌∷◌, suc, ◌||◌, Option}
 use Rattle.turn_lock.specs.declared.turn.Turn.{Turn}
 use Rattle.sp_base.specs.Views.{LinkView, NetView}
@@ -35,7 +35,7 @@ pub record IsNewcomer {L : Type 0} (seen : L → LinkView) (link : L) (role : Ro
   pub met_is : n.met ≡ met
   pub from_is : n.from ≡ from
 
--- what is to be done with a link whose greetings came so far, met and asked at these ticks
+-- what is to be done with a link whose greetings have this result, met and asked at these ticks
 abbrev pub DecidedFor : NewcomerDecision → Progress → ℕ → ℕ → Type 0
 DecidedFor decisions.Stays p met now = (p ≡ progress.Waits) × (now < met + 10000)
 DecidedFor decisions.Attach p met now = p ≡ progress.Opened
@@ -60,7 +60,7 @@ is_dry_fate (fates.Stays n) = false
 is_dry_fate fates.Up = false
 is_dry_fate (fates.Missed miss) = is_dry_for miss
 
--- what became of a link that was the first of those that are still to be greeted
+-- the fate of a link that was the first of those that are still to be greeted
 abbrev pub FateStands : {L : Type 0} → (L → LinkView) → NewcomerFate L → Setting → Beginning → List (Turn Entry) → NetView → List (Newcomer L) → ℕ → Type 0
 FateStands seen (fates.Stays n) z start h net ns k = LinksStand seen z start h net (ns ++ n ∷ []) k
 FateStands seen fates.Up z start h net ns k = LinksStand seen z start h net ns k
@@ -85,19 +85,19 @@ FateBack (fates.Stays n) place old new = new.back ≡ old.back
 FateBack fates.Up place old new = new.back ≡ old.back
 FateBack (fates.Missed miss) place old new = GivesOneBack place old new
 
--- ---- What stands before and after
+-- ---- What holds before and after
 
 -- the links of the run stand with this one first of those that are still to be greeted
 abbrev pub IsNextToGreet : {L : Type 0} → (L → LinkView) → Newcomer L → SingleView → NetView → Type 0
 IsNextToGreet {L} seen n s net =
     (start : Beginning) × (ns : List (Newcomer L)) × (k : ℕ) × LinksStand seen s.setting start s.seen net (n ∷ ns) (suc k)
 
--- where they stood so, they stand after what became of it
+-- if they stood like this, they stand after the fate of the link
 abbrev pub GreetsTo : {L : Type 0} → (L → LinkView) → Newcomer L → NewcomerFate L → SingleView → SingleView → NetView → NetView → Type 0
 GreetsTo {L} seen n fate s s' net net' =
     (start : Beginning) (ns : List (Newcomer L)) (k : ℕ) → LinksStand seen s.setting start s.seen net (n ∷ ns) (suc k) → FateStands seen fate s'.setting start s'.seen net' ns k
 
--- they stand with this one in hand
+-- the links of the run stand with this one in hand
 abbrev pub IsInHand : {L : Type 0} → (L → LinkView) → L → SingleView → NetView → Type 0
 IsInHand {L} seen link s net =
     (start : Beginning) × (ns : List (Newcomer L)) × (k : ℕ) × HandStands seen s.setting start s.seen net ns k (seen link)
@@ -111,12 +111,12 @@ abbrev pub AttachesTo : {L : Type 0} → (L → LinkView) → Opening L → Newc
 AttachesTo {L} seen opening fate s s' net net' =
     (start : Beginning) (ns : List (Newcomer L)) (k : ℕ) → HandStands seen s.setting start s.seen net ns k (seen opening.link) → IsOfRun seen start.origins s.setting opening → FateStands seen fate s'.setting start s'.seen net' ns k
 
--- where this is the cause, they stand without it
+-- where this is the cause, the links of the run stand without it
 abbrev pub MissesAs : {L : Type 0} → (L → LinkView) → L → Miss → SingleView → SingleView → NetView → NetView → Type 0
 MissesAs {L} seen link why s s' net net' =
     (start : Beginning) (ns : List (Newcomer L)) (k : ℕ) → HandStands seen s.setting start s.seen net ns k (seen link) → IsCauseOf start.origins s.setting s.seen why (seen link) → LinksStand seen s'.setting start s'.seen net' ns k
 
--- a link was missed when out of memory between these, where it is said so
+-- where the flag is true, a link was missed when out of memory between these two
 abbrev pub DriesBy : Bool → SingleView → SingleView → Type 0
 DriesBy is_dry s s' = has_dry_miss (past_of s'.seen) ≡ (is_dry || has_dry_miss (past_of s.seen))
 
@@ -138,7 +138,7 @@ FateIsFrom from (fates.Stays n) = n.from ≡ from
 FateIsFrom from fates.Up = ⊤
 FateIsFrom from (fates.Missed miss) = ⊤
 
--- the same link later, which took nothing of what is still owed once, or brought nothing
+-- the same link later, which once took nothing of what is still owed, or once brought nothing
 pub record HasWaitedOn {L : Type 0} (seen : L → LinkView) (old new : Newcomer L) : Type 0 where
   pub place : (seen new.opening.link).place ≡ (seen old.opening.link).place
   pub waited : WaitsFor seen (seen old.opening.link) new.opening

@@ -1,4 +1,4 @@
--- What stands between the ends of a run, its net, and the history of its socket.
+-- The relation between the ends of a run, its net, and the history of its socket.
 use Rattle.std.specs.Prelude.{◌≡◌, ◌≢◌, ◌≤◌, ◌<◌, ◌+◌, ◌*◌, ◌^◌, ◌++◌, ◌⊎◌, ◌==◌, ◌||◌, ℕ, ⊤, Bool, true, false, IsTrue, List, [], ◌∷◌, length, map, take, drop, Option, Some, None, is_some}
 use Rattle.std.specs.List.{AllByRecursion}
 use Rattle.std.specs.FinMap.{get}
@@ -42,31 +42,31 @@ use Rattle.sp_ends.specs.EndViews.{LinkEndsView, Beginning}
 abbrev pub places : {L : Type 0} → (L → LinkView) → List (Newcomer L) → List ℕ
 places seen ns = map (λ (n : Newcomer _). (seen n.opening.link).place) ns
 
--- the opening is the run's: of the own role, in a way that is known and of the link's scheme
+-- the opening is one of the run's: in its role, in a known way, for the link's scheme
 pub record IsOfRun {L : Type 0} (seen : L → LinkView) (o : Origins) (z : Setting) (n : Opening L) : Type 0 where
   pub role : n.role ≡ z.role
   pub scheme : (seen n.link).scheme ≡ scheme_for n.way
   pub known : IsKnown o n.way
 
--- in the order in which they were handed out, where so many at the beginning are still to be greeted in this round
+-- in the order in which they were handed out, where the first k are still to be greeted in this round
 abbrev pub in_order : {A : Type 0} → ℕ → List A → List A
 in_order k xs = drop k xs ++ take k xs
 
 -- A link in progress, met at its tick. It returned at least once a tick that nothing was there or that it took nothing,
--- but for so many ticks
+-- except for `slack` ticks
 pub record IsProgressing {L : Type 0} (seen : L → LinkView) (o : Origins) (z : Setting) (past : List Entry) (slack : ℕ) (n : Newcomer L) : Type 0 where
   pub under_way : IsUnderWay seen n.opening
   pub of_run : IsOfRun seen o z n.opening
   pub met : met_at past (seen n.opening.link).place ≡ Some n.met
   pub asked : CanRise (seen n.opening.link).idles → CanRise (seen n.opening.link).stalls → greeting_ticks past (seen n.opening.link).place ≤ (seen n.opening.link).idles + (seen n.opening.link).stalls + slack
 
--- the same of one that was greeted in this round
+-- the same for a link that was greeted in this round
 pub record WasGreeted {L : Type 0} (seen : L → LinkView) (o : Origins) (z : Setting) (past : List Entry) (n : Newcomer L) : Type 0 where
   pub progressing : IsProgressing seen o z past 0 n
   pub undone : IsUndone seen n.opening
   pub tried : HasTried seen n.opening
 
--- so many at the beginning are still to be greeted in this round
+-- the first k are still to be greeted in this round
 pub record AreProgressing {L : Type 0} (seen : L → LinkView) (o : Origins) (z : Setting) (past : List Entry) (k : ℕ) (ns : List (Newcomer L)) : Type 0 where
   pub within : k ≤ length ns
   pub ungreeted : AllByRecursion (IsProgressing seen o z past 1) (take k ns)
@@ -80,8 +80,8 @@ abbrev pub IsNoneOr : ℕ → Option ℕ → Type 0
 IsNoneOr n None = ⊤
 IsNoneOr n (Some m) = m ≡ n
 
--- the two numbers in the name of a wire: over TCP those of the two roles, where told; over WebSocket that of the own role
--- and that of the way in which its link began
+-- the two numbers in the name of a wire: over TCP those of the two roles, where told; over WebSocket that of the own
+-- role, and that of the way in which its link began
 abbrev pub AreNumbers : Origins → Setting → Scheme → Option ℕ → Option ℕ → Type 0
 AreNumbers o z schemes.Tcp own peer = IsNoneOr (role_number z.role) own × IsNoneOr (peer_number z.role) peer
 AreNumbers o z schemes.Ws own peer = (own ≡ Some (role_number z.role)) × ((way : Way) × (peer ≡ Some (way_number way)) × (scheme_for way ≡ schemes.Ws) × IsKnown o way)
@@ -93,8 +93,8 @@ name_number schemes.Tcp = scheme_number schemes.Tcp
 name_number schemes.Ws = opened_number (scheme_number schemes.Ws)
 name_number schemes.Inproc = scheme_number schemes.Inproc
 
--- the name of a wire over the link with this place. While the link was in progress it returned at least once a tick, but
--- for one, that nothing was there or that it took nothing
+-- the name of a wire over the link with this place. While the link was in progress it returned at least once a tick,
+-- except for one tick, that nothing was there or that it took nothing
 pub record IsNameOver (o : Origins) (z : Setting) (past : List Entry) (place : ℕ) (numbers : List ℕ) : Type 0 where
   pub scheme : Scheme
   pub spent : ℕ
@@ -108,7 +108,7 @@ pub record IsNameOver (o : Origins) (z : Setting) (past : List Entry) (place : �
 abbrev pub IsLaneName : List ℕ → Type 0
 IsLaneName numbers = (out : List ℕ) × (inward : List ℕ) × (numbers ≡ numbers_of (OverLanes out inward))
 
--- a pipe has the name of a wire over its link; at the place of lanes, and there alone, that of a wire over lanes
+-- a pipe has the name of a wire over its link; at the place of lanes, and only there, it has that of a wire over lanes
 abbrev pub IsNamed : Origins → Setting → List Entry → Entry → Type 0
 IsNamed o z past (Up p place name) =
     (place ≢ lane_place) × IsNameOver o z past place name.numbers ⊎ (place ≡ lane_place) × IsLaneName name.numbers
@@ -138,7 +138,7 @@ abbrev pub IsSomewhere : NetView → List Entry → ℕ → Type 0
 IsSomewhere net past place =
     (has (greeting past) place ≡ true) ⊎ IsPipe past place ⊎ IsBack net.back place (λ link. IsShut place link × IsAsked past place link)
 
--- the same of a history whose ticks can be counted
+-- the same, for a history whose ticks can be counted
 abbrev pub IsAskedIn : List Entry → ℕ → LinkView → Type 0
 IsAskedIn past place link = length (ticks past) < 2 ^ 64 → IsAsked past place link
 
@@ -154,7 +154,7 @@ abbrev pub is_over_link : List Entry → Entry → Bool
 is_over_link past (Up p place name) = (place == lane_place) || has (greeting past) place
 is_over_link past _ = true
 
--- what stands on the links of the run beside those in progress
+-- what holds of the links of the run other than those in progress
 pub record LinksKept (z : Setting) (start : Beginning) (h : List (Turn Entry)) (net : NetView) : Type 0 where
   pub opened : start.net.opened ≤ net.opened
   pub few : start.net.opened < net.opened → net.opened ≤ lane_place
@@ -167,7 +167,7 @@ pub record LinksKept (z : Setting) (start : Beginning) (h : List (Turn Entry)) (
   pub carried : (p place : ℕ) → place_of (past_of h) p ≡ Some place → place ≢ lane_place → IsCarried start.origins z h net p place
   pub others : KeepsOthers start.net net
 
--- what stands on all links of the run, where so many of those in progress are still to be greeted in this round
+-- what holds of all links of the run, where the first k of those in progress are still to be greeted in this round
 pub record LinksStand {L : Type 0} (seen : L → LinkView) (z : Setting) (start : Beginning) (h : List (Turn Entry)) (net : NetView) (ns : List (Newcomer L)) (k : ℕ) : Type 0 where
   pub kept : LinksKept z start h net
   pub progressing : AreProgressing seen start.origins z (past_of h) k ns
@@ -180,12 +180,12 @@ pub record InHand {L : Type 0} (seen : L → LinkView) (o : Origins) (z : Settin
   pub all : places seen (drop k ns) ++ link.place ∷ places seen (take k ns) ≡ greeting past
   pub asked : CanRise link.idles → CanRise link.stalls → greeting_ticks past link.place ≤ link.idles + link.stalls + 1
 
--- the same with all other links of the run
+-- the same, with all other links of the run
 pub record HandStands {L : Type 0} (seen : L → LinkView) (z : Setting) (start : Beginning) (h : List (Turn Entry)) (net : NetView) (ns : List (Newcomer L)) (k : ℕ) (link : LinkView) : Type 0 where
   pub kept : LinksKept z start h net
   pub hand : InHand seen start.origins z (past_of h) ns k link
 
--- the link began in a known way, and when it is shut it is one that was missed for this cause
+-- the link began in a known way, and once shut it is one that was missed for this cause
 abbrev pub IsCauseOf : Origins → Setting → List (Turn Entry) → Miss → LinkView → Type 0
 IsCauseOf o z h miss link = BeganSo (run_ways z.role o) link (λ way. MissedFor (run_ways z.role o) z h (past_of h) link.place miss (record link { is_open = false }) way)
 
@@ -198,7 +198,7 @@ abbrev pub tries_of : List Dialer → ℕ
 tries_of [] = 0
 tries_of (d ∷ ds) = tries_of ds + d.tries
 
--- the net listens for it, at an address over links
+-- the net listens there, at an address over links
 pub record IsListener (net : NetView) (l : Listener) : Type 0 where
   pub listens : get net.listens l.at ≡ Some (scheme_of l.addr)
   pub linked : is_linked l.addr ≡ true
@@ -229,7 +229,7 @@ pub record EndsStand {L : Type 0} (seen : L → LinkView) (z : Setting) (start :
   pub asked : NetStands start (past_of h) (past_of h) net ends.listeners ends.dialers
   pub of_run : AreOfRun start.origins ends
 
--- no result of the net was counted, and it listens as it did
+-- no result of the net was counted, and it listens as before
 pub record SameCounts (old new : NetView) : Type 0 where
   pub listens : new.listens ≡ old.listens
   pub opened : new.opened ≡ old.opened

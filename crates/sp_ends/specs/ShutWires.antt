@@ -1,4 +1,4 @@
--- Wires that are shut, and what a net has back of them.
+-- Wires that are shut, and the links of them that a net has back.
 use Rattle.std.specs.Prelude.{◌≡◌, ◌<◌, ℕ, ⊤, true, false, List, [], ◌∷◌, Option, Some, None}
 use Rattle.std.specs.List.{AllByRecursion}
 use Rattle.std.specs.FinMap.{insert, FinMap}
@@ -22,7 +22,7 @@ abbrev pub shut_under : Option LinkView → Option LinkView
 shut_under None = None
 shut_under (Some link) = Some (shut_link link)
 
--- the wire can be shut: what it shows stands, but that it is shut, and so does its link; and it is tied to that
+-- the wire can be shut: what it shows stays, except that it is shut, and so is its link; and it is tied to that
 pub record IsShutAs {L : Type 0} (wire : EndWire L) (link : Option LinkView) : Type 0 where
   pub shut : EndWire L
   pub after : AfterShut (shown wire) (shown shut)
@@ -41,11 +41,11 @@ MayDrain (wires.Tcp v) = ⊤
 MayDrain (wires.Ws v) = ⊤
 MayDrain (wires.Lane v) = v.wire.drains ≡ true
 
--- a lane put what was in hand and its end, if there was room for it
+-- a lane put what was in hand and its end, if there was room
 abbrev pub HangsUp : LaneWireView → LaneWireView → Type 0
 HangsUp old new = (returned : WireFlush) × LaneFlushed returned old new
 
--- a wire within the process did; any other is the same
+-- a wire within the process told its end; any other is the same
 abbrev pub TellsEnd : {L : Type 0} → EndWire L → EndWire L → Type 0
 TellsEnd (wires.Tcp v) new = new ≡ wires.Tcp v
 TellsEnd (wires.Ws v) new = new ≡ wires.Ws v
@@ -63,7 +63,7 @@ abbrev pub with_links : {L : Type 0} → (L → LinkView) → FinMap nat_cmp Lin
 with_links seen back [] = back
 with_links seen back (n ∷ ns) = with_links seen (insert back (seen n.opening.link).place (shut_link (seen n.opening.link))) ns
 
--- a link, if there is one, shut
+-- with a link, if there is one, that is shut
 abbrev pub with_link : FinMap nat_cmp LinkView → Option LinkView → FinMap nat_cmp LinkView
 with_link back None = back
 with_link back (Some link) = insert back link.place (shut_link link)
@@ -77,12 +77,12 @@ with_wires back (x ∷ xs) = with_link (with_wires back xs) (link_of x.wire)
 abbrev pub CanShut : {L : Type 0} → EndWire L → Type 0
 CanShut w = IsShutAs w (shut_under (link_of w))
 
--- a net handed out so many links, and this is one of them
+-- the link, if there is one, is among the first `opened` that a net handed out
 abbrev pub IsBelow : ℕ → Option LinkView → Type 0
 IsBelow opened None = ⊤
 IsBelow opened (Some link) = link.place < opened
 
--- the wires' links are a net's that handed out so many
+-- the links of the wires are among the first `opened` that a net handed out
 abbrev pub AreHandedOut : {L : Type 0} → ℕ → List (DownPipe (EndWire L)) → Type 0
 AreHandedOut opened ws = AllByRecursion (λ x. CanShut x.wire → IsBelow opened (link_of x.wire)) ws
 

@@ -8,12 +8,12 @@ use Rattle.sp_ends.specs.LinkRecords.{has_dry_miss}
 use Rattle.sp_socket.specs.Singles.{SingleView}
 use Rattle.sp_ends.specs.Entries.{AddsNone, moves_calls}
 
--- the turns of a run that is open: no rule of plays speaks of them
+-- the turns of a run that is open: no rule of plays concerns them
 pub record Quietly (old new : SingleView) : Type 0 where
   pub setting : new.setting ≡ old.setting
   pub silent : AddsNone moves_calls old.seen new.seen
 
--- whether a link was missed when out of memory so far
+-- a link was missed when out of memory so far, or not
 abbrev pub IsDry : Bool → SingleView → Type 0
 IsDry is_dry s = has_dry_miss (past_of s.seen) ≡ is_dry
 
@@ -22,6 +22,6 @@ abbrev pub is_lane : Entry → Bool
 is_lane (Up p place name) = place == lane_place
 is_lane _ = false
 
--- between these no lane came up
+-- no lane came up between these two
 abbrev pub NoLane : SingleView → SingleView → Type 0
 NoLane old new = AddsNone is_lane old.seen new.seen

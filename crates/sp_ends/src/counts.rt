@@ -1,8 +1,8 @@
-//! How many links each listener has in its greetings.
+//! The number of links in their greetings, for each listener.
 ghost use Rattle.std.specs.Prelude.{◌≡◌, ◌≤◌, ◌<◌, ◌+◌, ◌-◌, ◌^◌, ℕ, length, Some, get_or};
 ghost use Rattle.sp_ends.specs.Listening.{one_from};
 
-// The count at this place of the list, if there is one, is one more.
+// Adds 1 to the count at this place of the list, if there is one.
 pub(crate) fn one_more(counts: &mut Vec<usize>, at: Option<usize>)
     requires small { (i : ℕ) → i < length counts.old.items → get_or counts.old.items i 0 < 2 ^ 64 - 1 }
     ensures length { length counts.new.items ≡ length counts.old.items }
@@ -16,7 +16,7 @@ pub(crate) fn one_more(counts: &mut Vec<usize>, at: Option<usize>)
     }
 }
 
-// It is one less.
+// Subtracts 1 from it.
 pub(crate) fn one_less(counts: &mut Vec<usize>, at: Option<usize>)
     requires some { (i : ℕ) → i < length counts.old.items → one_from i at ≤ get_or counts.old.items i 0 }
     ensures length { length counts.new.items ≡ length counts.old.items }

@@ -12,7 +12,7 @@ use sp_lane::Inproc;
 use std::alloc::Global;
 use std::marker::Model;
 
-/// Addresses over links of a net that are listened at and dialed (nng_listener(5), nng_dialer(5)), the links that are
+/// Addresses over links of a net that are listened on and dialed (nng_listener(5), nng_dialer(5)), the links that are
 /// being opened, and names within the process that are listened on and dialed. Its room for links is taken when it is
 /// made.
 pub struct Ends<L: Link> {
@@ -29,7 +29,7 @@ impl<L: Link> Model for Ends<L> {
 }
 
 impl<L: Link> Ends<L> {
-    /// No end. The key of the n-th opening over WebSocket that is dialed is made from `dice` + n, n from 0 on.
+    /// No ends. The key of the n-th opening over WebSocket that is dialed, from 0, is made from `dice` + n.
     pub fn new(alloc: Global, role: Role, dice: u32) -> Result<Ends<L>, NoMemory>
         ensures { IfOk result (λ e. e ≡ no_ends role dice) }
     {
@@ -39,8 +39,8 @@ impl<L: Link> Ends<L> {
         })
     }
 
-    /// Listens at one address more, of any kind: at those of TCP and of WebSocket over the net, on names in `inproc`.
-    /// `InUse` only where the name is listened on there.
+    /// Listens on one more address of any kind: for TCP and WebSocket over the net, for names in `inproc`. Returns
+    /// `InUse` only where the name is already listened on there.
     pub fn listen<N: Net<L = L>>(
         &mut self,
         net: &mut N,
@@ -60,7 +60,7 @@ impl<L: Link> Ends<L> {
         }
     }
 
-    /// Dials one address more, of any kind, from the next turn on.
+    /// Dials one more address, of any kind, from the next turn on.
     pub fn dial(&mut self, addr: &Addr) -> Result<(), EndError>
         requires dialable { is_linked addr.now ≡ true → is_dialable addr.now ≡ true }
         ensures { DialsAlso result addr.now self.old self.new }

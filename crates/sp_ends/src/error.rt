@@ -4,7 +4,7 @@ ghost use Rattle.sp_ends.specs.Errors.{end_number};
 
 use sp_base::SpError;
 
-/// Why an end could not be added (nng_listen(3), nng_dial(3)). As an `SpError` it is an error of NNG; a net that fails to
+/// Why an end could not be added (nng_listen(3), nng_dial(3)). As an `SpError` it is an NNG error; a net that fails to
 /// listen is taken as an address in use.
 #[derive(Clone, Copy, Debug, PartialEq, Eq)]
 pub enum EndError {

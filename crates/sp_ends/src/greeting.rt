@@ -16,13 +16,13 @@ use sp_socket::{AttachError, Single};
 use std::alloc::Global;
 use std::sync::Wait;
 
-/// The most bytes of a body that is taken.
+/// The maximum length of a body that is taken, in bytes.
 pub const RECV_MAX_SIZE: u32 = 1_048_576;
 
-/// How many milliseconds the greetings of a link may take.
+/// The maximum time for the greetings of a link, in milliseconds.
 const GREETING_TIME: u64 = 10_000;
 
-/// What became of a newcomer.
+/// The fate of a newcomer.
 pub enum NewcomerFate<L: Link> {
     /// Its greetings go on.
     Stays(Newcomer<L>),
@@ -42,7 +42,7 @@ pub enum NewcomerDecision {
     Miss(Miss),
 }
 
-/// Goes on with the greetings of a link.
+/// Continues the greetings of a link.
 pub fn greet_one<R: Wait, N: Net, P: Proto>(
     alloc: Global,
     rt: &R,
@@ -101,7 +101,7 @@ fn decide(progress: Progress, met: Tick, now: Tick) -> NewcomerDecision
     }
 }
 
-// A link that is opened becomes a pipe.
+// Makes a pipe of a link whose opening is done.
 fn attach<R: Wait, N: Net, P: Proto>(
     alloc: Global,
     rt: &R,
@@ -141,7 +141,7 @@ fn attach<R: Wait, N: Net, P: Proto>(
     }
 }
 
-// Why a link is missed that was refused so.
+// The miss for a link that was refused for this cause.
 fn miss_for(why: AttachError) -> Miss
     ensures { MissesFor why result }
 {
@@ -153,7 +153,7 @@ fn miss_for(why: AttachError) -> Miss
     }
 }
 
-/// A link that doesn't become a pipe is shut and given back, for this cause.
+/// Shuts a link that doesn't become a pipe, and gives it back, for this cause.
 pub fn miss<R: Wait, N: Net, P: Proto>(
     rt: &R,
     net: &mut N,

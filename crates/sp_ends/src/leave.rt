@@ -12,8 +12,8 @@ use sp_socket::WireList;
 use std::sync::Wait;
 
 impl<L: Link> Ends<L> {
-    /// Gives all links back: those whose greetings are under way, and those of the wires, which are all that a closed
-    /// socket with this history had. A lane tells its end to the other half, if it has room.
+    /// Gives all links back: those whose greetings are under way, and those of the wires, which are all the wires that
+    /// a closed socket with this history had. A lane tells its end to the other half, if it has room.
     pub fn give_all_back<R: Wait, N: Net<L = L>>(
         self,
         rt: &R,
@@ -28,7 +28,7 @@ impl<L: Link> Ends<L> {
         links.give_all_back(rt, net, wires);
     }
 
-    /// Ends what has no link.
+    /// Drops the rest, which has no link.
     pub fn destroy_empty(self)
         requires { self.links.newcomers ≡ [] }
     {
@@ -38,7 +38,7 @@ impl<L: Link> Ends<L> {
 }
 
 impl<L: Link> LinkEnds<L> {
-    // Gives the links back whose greetings are under way, and those of the wires.
+    // Gives back the links whose greetings are under way, and those of the wires.
     fn give_all_back<R: Wait, N: Net<L = L>>(self, rt: &R, net: &mut N, wires: WireList<EndWire<L>>)
         requires stands { StandWithWires L.seen (N.seen net.old) self wires }
         ensures left { LeaveLinks L.seen (N.seen net.old) (N.seen net.new) self wires }
@@ -58,7 +58,7 @@ impl<L: Link> LinkEnds<L> {
         give_wires_back(rt, net, wires);
     }
 
-    // Ends what has no link.
+    // Drops the rest, which has no link.
     pub(crate) fn destroy_empty(self)
         requires { self.newcomers ≡ [] }
     {

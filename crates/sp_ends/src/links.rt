@@ -18,26 +18,27 @@ use std::alloc::Global;
 use std::collections::VecDeque;
 use std::marker::Model;
 
-/// How many links of one listener may be opened at once. It is asked for none while so many are.
+/// The maximum number of links of one listener that are being opened at once. While there are as many, it isn't asked
+/// for more.
 const MOST_NEWCOMERS: usize = 256;
 
-/// For how many links that were dialed there is room.
+/// The number of dialed links that there is room for.
 const MOST_DIALED: usize = 64;
 
 /// Listeners, dialers, and the links that are being opened. The room for the links of a listener is taken with it.
 pub(crate) struct LinkEnds<L: Link> {
     pub(crate) alloc: Global,
-    /// The own role in the openings.
+    /// The role in the openings.
     pub(crate) role: Role,
     /// The number from which the keys of WebSocket are made.
     pub(crate) dice: u32,
-    /// How many links of WebSocket were dialed, at most 2^64 - 1.
+    /// The number of WebSocket links that were dialed, saturating.
     pub(crate) asked: u64,
     pub(crate) listeners: Vec<Listener>,
-    /// How many links of each listener are being opened, in the order of the listeners.
+    /// The number of links of each listener that are being opened, in the order of the listeners.
     pub(crate) greetings: Vec<usize>,
     pub(crate) dialers: Vec<Dialer>,
-    /// Those that a turn has passed are behind the others, else in the order in which they were handed out.
+    /// Those that a turn has passed are after the others; otherwise in the order in which they were handed out.
     pub(crate) newcomers: VecDeque<Newcomer<L>>,
 }
 
@@ -55,7 +56,7 @@ impl<L: Link> Model for LinkEnds<L> {
 }
 
 impl<L: Link> LinkEnds<L> {
-    /// No end. The key of the n-th opening over WebSocket that is dialed is made from `dice` + n, n from 0 on.
+    /// No ends. The key of the n-th opening over WebSocket that is dialed, from 0, is made from `dice` + n.
     pub fn new(alloc: Global, role: Role, dice: u32) -> Result<LinkEnds<L>, NoMemory>
         ensures { IfOk result (λ e. e ≡ no_links role dice) }
     {
@@ -71,7 +72,7 @@ impl<L: Link> LinkEnds<L> {
         })
     }
 
-    /// Listens at one address more, of TCP or of WebSocket.
+    /// Listens on one more address, of TCP or of WebSocket.
     pub fn listen<N: Net<L = L>>(&mut self, net: &mut N, addr: &Addr) -> Result<(), EndError>
         requires linked { is_linked addr.now ≡ true }
         ensures { ListensLink result addr.now self.old self.new (N.seen net.old) (N.seen net.new) }
@@ -99,7 +100,7 @@ impl<L: Link> LinkEnds<L> {
         }
     }
 
-    /// Dials one address more, of TCP or of WebSocket, from the next turn on.
+    /// Dials one more address, of TCP or of WebSocket, from the next turn on.
     pub fn dial(&mut self, addr: &Addr) -> Result<(), EndError>
         requires dialable { is_dialable addr.now ≡ true }
         ensures { DialsLink result addr.now self.old self.new }
@@ -113,7 +114,7 @@ impl<L: Link> LinkEnds<L> {
         }
     }
 
-    // Whether as many links of the listener at this place of the list are being opened as may be at once.
+    // Returns whether as many links of the listener at this place of the list are being opened as may be at once.
     pub(crate) fn is_full(&self, i: usize) -> bool
         requires inside { i < length self.now.listeners }
         ensures { result ≡ nat_le 256 (own_of i self.now.newcomers) }
@@ -121,7 +122,7 @@ impl<L: Link> LinkEnds<L> {
         self.greetings[i] >= MOST_NEWCOMERS
     }
 
-    // The link stands behind those that are being opened.
+    // Puts the link after those that are being opened.
     pub(crate) fn keep(&mut self, newcomer: Newcomer<L>)
         requires room { length self.old.newcomers < room_for (length self.old.listeners) }
         requires from { IsFromOne (length self.old.listeners) newcomer.from }
@@ -131,7 +132,7 @@ impl<L: Link> LinkEnds<L> {
         self.newcomers.push_back_reserved(newcomer);
     }
 
-    // The first of those that are being opened leaves them, if there is one.
+    // Removes the first of those that are being opened, if there is one.
     pub(crate) fn next_newcomer(&mut self) -> Option<Newcomer<L>>
         ensures { LeavesFirst result self.old self.new }
     {
@@ -142,7 +143,7 @@ impl<L: Link> LinkEnds<L> {
         Some(newcomer)
     }
 
-    // The link with this place is back: who had dialed it may dial again.
+    // Records that the link with this place is back: its dialer may dial again.
     pub(crate) fn lost(&mut self, now: Tick, place: u32)
         ensures same { SameButPlaces self.old self.new }
         ensures freed { AreFreed now place self.old.dialers self.new.dialers }
@@ -153,7 +154,7 @@ impl<L: Link> LinkEnds<L> {
     }
 }
 
-// For how many links that are being opened there is room beside so many listeners.
+// The number of links in their opening that there is room for with this many listeners.
 pub(crate) fn room_for(listeners: usize) -> Option<usize>
     ensures { IfSome result (λ n. n ≡ room_for listeners) }
 {

@@ -1,8 +1,8 @@
-//! An address that is listened at.
+//! An address that is listened on.
 
 use sp_base::Addr;
 
-/// An address at which the net listens (nng_listener(5)).
+/// An address on which the net listens (nng_listener(5)).
 #[derive(Debug, Drop)]
 pub struct Listener {
     /// The number by which the net knows it.

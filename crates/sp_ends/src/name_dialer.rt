@@ -6,19 +6,19 @@ ghost use Rattle.sp_ends.specs.NameSteps.{IsDueNameDialer, IsLostNameDialer};
 use crate::dialer::PAUSE;
 use sp_base::{Bytes, PipeId, Tick};
 
-/// A name within the process that is dialed again and again, while no pipe to it stands (nng_dialer(5)).
+/// A name within the process that is dialed again and again, while there is no pipe to it (nng_dialer(5)).
 #[derive(Debug, Drop)]
 pub struct NameDialer {
     /// The name.
     pub name: Bytes,
-    /// From this tick on it may be dialed; none is never.
+    /// The tick from which on it may be dialed; `None` means never.
     pub next: Option<u64>,
     /// The pipe that it has, if it has one.
     pub pipe: Option<PipeId>,
 }
 
 impl NameDialer {
-    /// It has no pipe, and may be dialed at once.
+    /// A dialer that has no pipe, and may be dialed at once.
     pub fn new(name: Bytes) -> NameDialer
         ensures { result ≡ record { name = name; next = Some 0; pipe = None } }
     {
@@ -29,7 +29,7 @@ impl NameDialer {
         }
     }
 
-    /// Whether it is to be dialed at this tick.
+    /// Returns whether it is to be dialed at this tick.
     pub fn is_due(&self, now: Tick) -> bool
         ensures { IsTrue result ↔ IsDueNameDialer now self.now }
     {
@@ -39,7 +39,7 @@ impl NameDialer {
         }
     }
 
-    /// It was dialed at this tick, and has this pipe now, or none.
+    /// Records that the name was dialed at this tick, and has this pipe now, or none.
     pub fn called(&mut self, now: Tick, pipe: Option<PipeId>)
         ensures { self.new ≡ record self.old { next = moment (now + 100); pipe = pipe } }
     {
@@ -47,7 +47,7 @@ impl NameDialer {
         self.pipe = pipe;
     }
 
-    /// The wire of this pipe was taken: where it was this one's, it may be dialed again after the pause.
+    /// Records that the wire of this pipe was taken. If it was this dialer's, it may dial again after the pause.
     pub fn lost(&mut self, now: Tick, pipe: PipeId)
         ensures { IsLostNameDialer now pipe self.old self.new }
     {

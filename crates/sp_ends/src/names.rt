@@ -16,7 +16,7 @@ use std::alloc::Global;
 use std::marker::Model;
 use std::sync::Wait;
 
-/// How many links a listener is asked for in a turn at most, and how many lanes a name.
+/// The maximum number of links that a listener is asked for in a turn, and of lanes that a name is asked for.
 pub const LINKS_A_TURN: u32 = 16;
 
 /// The place of a pipe that has no link of a net.
@@ -26,9 +26,9 @@ const LANE_PLACE: u32 = u32::MAX;
 #[derive(Drop)]
 pub struct NameEnds {
     alloc: Global,
-    /// Those that are listened on.
+    /// The names that are listened on.
     pub names: Vec<Bytes>,
-    /// Those that are dialed.
+    /// The names that are dialed.
     pub callers: Vec<NameDialer>,
 }
 
@@ -41,7 +41,7 @@ impl Model for NameEnds {
 }
 
 impl NameEnds {
-    /// None.
+    /// No names.
     pub fn new(alloc: Global) -> NameEnds
         ensures { result ≡ record { names = []; callers = [] } }
     {
@@ -52,7 +52,7 @@ impl NameEnds {
         }
     }
 
-    /// Listens on one name more, in this role.
+    /// Listens on one more name, in this role.
     pub fn listen(&mut self, inproc: &mut Inproc, name: &[u8], role: Role) -> Result<(), EndError>
         ensures { ListensName result name.now role self.old self.new inproc.old inproc.new }
     {
@@ -74,7 +74,7 @@ impl NameEnds {
         }
     }
 
-    /// Dials one name more, from the next turn on.
+    /// Dials one more name, from the next turn on.
     pub fn dial(&mut self, name: &[u8]) -> Result<(), EndError>
         ensures { DialsName result name.now self.old self.new }
     {
@@ -87,7 +87,7 @@ impl NameEnds {
         }
     }
 
-    /// The wire of this pipe was taken: who had dialed it may dial again.
+    /// Records that the wire of this pipe was taken: its dialer may dial again.
     pub fn lost(&mut self, now: Tick, pipe: PipeId)
         ensures names { self.new.names ≡ self.old.names }
         ensures lost { AreLost now pipe self.old.callers self.new.callers }
@@ -198,7 +198,7 @@ fn accept_from<R: Wait, L: Link, P: Proto>(
     }
 }
 
-// A lane becomes a pipe. One that attach refuses is shut, which tells the other half.
+// Makes a pipe of a lane. One that `attach` refuses is shut, which tells the other half.
 fn attach_lane<R: Wait, L: Link, P: Proto>(
     rt: &R,
     single: &mut Single<P, EndWire<L>>,

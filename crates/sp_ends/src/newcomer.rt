@@ -1,4 +1,4 @@
-//! A link that was handed out and is no pipe yet.
+//! A link that was handed out and isn't a pipe yet.
 ghost use Rattle.std.specs.Prelude.{◌≡◌, Ok, IfOk, MatchResult};
 ghost use Rattle.sp_base.specs.Steps.{IsNew};
 ghost use Rattle.sp_links.specs.Openings.{CanBegin};
@@ -14,12 +14,12 @@ pub struct Newcomer<L: Link> {
     pub opening: Opening<L>,
     /// The tick at which it was handed out.
     pub met: Tick,
-    /// The listener that brought it, by its place in the list; none where it was dialed.
+    /// The listener that brought it, by its place in the list; `None` where it was dialed.
     pub from: Option<usize>,
 }
 
 impl<L: Link> Newcomer<L> {
-    /// A link that was handed out just now. Refused when out of memory alone; then the link comes back.
+    /// A link that was just handed out. Fails only when out of memory; then the link is returned.
     pub fn new(
         alloc: Global,
         link: L,
@@ -39,7 +39,7 @@ impl<L: Link> Newcomer<L> {
     }
 }
 
-/// A link that was handed out just now. Refused only when out of memory; then the link comes back.
+/// A link that was just handed out. Fails only when out of memory; then the link is returned.
 pub fn newcomer_over<L: Link>(
     alloc: Global,
     link: L,

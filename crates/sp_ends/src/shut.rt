@@ -14,7 +14,7 @@ use sp_socket::WireList;
 use std::collections::VecDeque;
 use std::sync::Wait;
 
-/// A link that is done with.
+/// Shuts a link that is done with, and gives it back.
 pub fn leave<N: Net>(net: &mut N, mut link: N::L)
     requires { (N.L.seen link).place < (N.seen net.old).opened }
     ensures { AfterGiveBack (record (N.L.seen link) { is_open = false }) (N.seen net.old) (N.seen net.new) }
@@ -32,7 +32,7 @@ pub fn leave_wire<R: Wait, L: Link>(rt: &R, mut wire: EndWire<L>) -> Option<L>
     tell_end(rt, wire).into_link()
 }
 
-// A wire within the process that was shut tells its end; any other stays.
+// Tells the end of a wire within the process that was shut; any other wire stays unchanged.
 fn tell_end<R: Wait, L: Link>(rt: &R, wire: EndWire<L>) -> EndWire<L>
     requires { MayDrain wire }
     ensures { TellsEnd wire result }
@@ -54,7 +54,7 @@ fn hang_up<R: Wait>(rt: &R, lane: LaneWire) -> LaneWire
     lane
 }
 
-/// Gives the links of the wires back.
+/// Gives back the links of the wires.
 pub fn give_wires_back<R: Wait, N: Net>(rt: &R, net: &mut N, mut wires: WireList<EndWire<N::L>>)
     requires { AreHandedOut (N.seen net.old).opened wires }
     ensures { WiresBack wires (N.seen net.old) (N.seen net.new) }
@@ -67,7 +67,7 @@ pub fn give_wires_back<R: Wait, N: Net>(rt: &R, net: &mut N, mut wires: WireList
     wires.destroy_empty();
 }
 
-/// Gives the links back whose greetings are under way.
+/// Gives back the links whose greetings are under way.
 pub fn give_newcomers_back<N: Net>(net: &mut N, newcomers: VecDeque<Newcomer<N::L>>)
     requires { AllByRecursion (λ n. (N.L.seen n.opening.link).place < (N.seen net.old).opened) newcomers.items }
     ensures back { (N.seen net.new).back ≡ with_links N.L.seen (N.seen net.old).back newcomers.items }

@@ -38,19 +38,19 @@ use std::sync::Wait;
 /// The result of a turn of the ends.
 #[derive(Clone, Copy, Debug, PartialEq, Eq)]
 pub struct EndsTurn {
-    /// Whether a link was given back when out of memory, in this turn or before.
+    /// Whether a link was given back when out of memory, in this turn or an earlier one.
     pub is_dry: bool,
 }
 
 impl EndsTurn {
-    // Nothing in this turn so far.
+    // The result of a turn before it does anything.
     fn new(was_dry: bool) -> EndsTurn
         ensures { result.is_dry ≡ was_dry }
     {
         EndsTurn { is_dry: was_dry }
     }
 
-    // A link was given back for this cause.
+    // Records that a link was given back for this cause.
     fn missed(&mut self, miss: Miss)
         ensures { self.new.is_dry ≡ (is_dry_for miss || self.old.is_dry) }
     {
@@ -59,11 +59,11 @@ impl EndsTurn {
 }
 
 impl<L: Link> Ends<L> {
-    /// One turn of the ends, at this tick, which is that of the history. It takes the wires whose pipes are down and
-    /// gives their links back. It goes on with the greetings, asks each listener for at most 16 links, and dials each
-    /// address that is due. Then it does the same with names within the process. Where there is no memory for a link
-    /// this is given back and the turn says so; the other links have their turn all the same. `was_dry` says whether a
-    /// turn before has said so.
+    /// One turn of the ends, at this tick, which is the history's. It takes the wires whose pipes are down and gives
+    /// their links back. It goes on with the greetings, asks each listener for at most 16 links, and dials each address
+    /// that is due. Then it does the same with names within the process. Where there is no memory for a link, the link
+    /// is given back and the result says so; the other links still have their turn. `was_dry` says whether an earlier
+    /// turn has said so.
     pub fn turn<R: Wait, N: Net<L = L>, P: Proto>(
         &mut self,
         rt: &R,
@@ -175,7 +175,7 @@ impl<L: Link> LinkEnds<L> {
         unreachable!()
     }
 
-    // Goes on with the greetings, and asks each listener and each dialer that is due.
+    // Continues the greetings, and asks each listener and each dialer that is due.
     fn go_on<R: Wait, N: Net<L = L>, P: Proto>(
         &mut self,
         rt: &R,
@@ -238,7 +238,7 @@ impl<L: Link> LinkEnds<L> {
         Some(pipe)
     }
 
-    // Goes on with all greetings that are under way.
+    // Continues all greetings that are under way.
     fn greet_all<R: Wait, N: Net<L = L>, P: Proto>(
         &mut self,
         rt: &R,
@@ -266,7 +266,7 @@ impl<L: Link> LinkEnds<L> {
         }
     }
 
-    // Goes on with the greetings of one link, which goes behind the newcomers unless it is done with.
+    // Continues the greetings of one link, which goes after the newcomers unless it is done with.
     fn greet<R: Wait, N: Net<L = L>, P: Proto>(
         &mut self,
         rt: &R,
@@ -345,7 +345,7 @@ impl<L: Link> LinkEnds<L> {
         }
     }
 
-    // Asks the listener at this place of the list for one link, and says whether it brought one.
+    // Asks the listener at this place of the list for one link, and returns whether it brought one.
     fn accept_one<R: Wait, N: Net<L = L>, P: Proto>(
         &mut self,
         rt: &R,
@@ -386,7 +386,7 @@ impl<L: Link> LinkEnds<L> {
         }
     }
 
-    // How the link begins that the listener at this place of the list brought.
+    // How a link begins that the listener at this place of the list brought.
     fn serving(&self, i: usize) -> Result<Way, NoMemory>
         requires inside { i < length self.now.listeners }
         ensures { (l : ListenerType) → slice_get self.now.listeners i ≡ Some l → IfOk result (λ way. way ≡ serving l.addr) }
@@ -470,7 +470,7 @@ impl<L: Link> LinkEnds<L> {
         }
     }
 
-    // How the link begins that the address at this place of the list gave just now.
+    // How a link begins that the address at this place of the list has just given.
     fn asking(&mut self, i: usize) -> Result<Way, NoMemory>
         requires inside { i < length self.old.dialers }
         ensures way { (n : ℕ) × (n ≡ min self.old.asked (2 ^ 64 - 1 - self.old.dice)) × ((d : DialerType) → slice_get self.old.dialers i ≡ Some d → IfOk result (λ way. way ≡ asking d.addr (self.old.dice + n))) }
@@ -483,7 +483,7 @@ impl<L: Link> LinkEnds<L> {
         way
     }
 
-    // The way of a link, where there is room for one more; there always is for the links of 64 ends.
+    // The way of a link, where there is room for one more link; there always is for the links of 64 ends.
     fn fitting(&self, way: Result<Way, NoMemory>) -> Result<Way, NoMemory>
         ensures { FitsIn way result self.now }
     {
@@ -497,7 +497,7 @@ impl<L: Link> LinkEnds<L> {
         }
     }
 
-    // A link that was handed out just now, by this listener, is met, and greeted. Its way is missing when out of memory.
+    // Records a link that this listener has just brought, and greets it. Its way is missing when out of memory.
     fn meet_newcomer<R: Wait, N: Net<L = L>, P: Proto>(
         &mut self,
         rt: &R,
@@ -535,7 +535,7 @@ impl<L: Link> LinkEnds<L> {
     }
 }
 
-// How many links of WebSocket were dialed, once one of this scheme was.
+// The number of WebSocket links that were dialed, once one of this scheme was.
 fn asked_after(scheme: Scheme, asked: u64) -> u64
     ensures { result ≡ asked_after scheme asked }
 {

@@ -27,7 +27,7 @@ found_at pairs k pair name lt is same =
     ap (λ l. find (slice_cmp nat_cmp) name (named_entries l)) at
     ∙ ap (λ b. cond b (Some pair.1) (find (slice_cmp nat_cmp) name (named_entries (drop (suc k) pairs)))) (same_name name (string_bytes pair.0) (sym same))
 
--- an entry of another name is passed
+-- an entry of another name is skipped
 pub passed_at : (pairs : List (String Global × List ℕ)) (k : ℕ) (pair : String Global × List ℕ) (name : List ℕ) → k < length pairs → pair ≡ get_or pairs k pair → ¬ (string_bytes pair.0 ≡ name) → find (slice_cmp nat_cmp) name (named_entries (drop (k + 1) pairs)) ≡ find (slice_cmp nat_cmp) name (named_entries (drop k pairs))
 passed_at pairs k pair name lt is other =
     let at : drop k pairs ≡ pair ∷ drop (suc k) pairs = drop-cons pairs k pair lt ∙ ap (λ p. p ∷ drop (suc k) pairs) (sym is) in

@@ -79,7 +79,7 @@ gives_end written script at offset buf e = subst (λ l. GivesNext written l read
 pub gives_after : (written : ℕ) (script : List LinkStep) (at offset n : ℕ) (buf : List ℕ) → slice_get script at ≡ Some (steps.After n) → written < n → GivesNext written (left_at script at offset) reads.NotYet buf (left_at script at offset)
 gives_after written script at offset n buf e lt = subst (λ l. GivesNext written l reads.NotYet buf l) (left_is script at offset (steps.After n) e) (inr (lt, refl, refl))
 
--- a link stands at an end exactly where the step there is one
+-- a link is at an end exactly where the step there is one
 pub end_stands : (script : List LinkStep) (at : ℕ) → slice_get script at ≡ Some steps.End → stands_at_end true script at ≡ true
 end_stands [] at e = absurd cc
 end_stands (steps.End ∷ rest) zero e = refl

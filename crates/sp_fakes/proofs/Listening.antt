@@ -44,14 +44,14 @@ stands [] k lt e = omega (arith, lt)
 stands (x ∷ xs) zero lt e = cc
 stands (x ∷ xs) (suc k) lt e = stands xs k (omega (arith, lt)) e
 
--- behind the last one nothing stands
+-- there is nothing after the last one
 past_end : (xs : List Scheme) (k : ℕ) → slice_get xs k ≡ None → length xs ≤ k
 past_end xs k e = elim (cases_lt k (length xs)) [
   | inl lt ↦ absurd (stands xs k lt e)
   | inr le ↦ le
 ]
 
--- another number has what it had
+-- another number keeps what it had
 kept : (xs xs' : List Scheme) (scheme : Scheme) (n k : ℕ) → numbered_from 0 xs' ≡ insert (numbered_from 0 xs) n scheme → eq_by_cmp nat_cmp k n ≡ false → slice_get xs' k ≡ slice_get xs k
 kept xs xs' scheme n k e other =
     sym (at_number xs' k) ∙ ap (λ (m : FinMap nat_cmp Scheme). get m k) e

@@ -6,7 +6,7 @@ use Rattle.std.specs.declared.collections.VecDeque.{VecDeque}
 use Rattle.sp_fakes.specs.declared.net.NetLink.{NetLink}
 use Rattle.sp_fakes.specs.Nets.{queue_of, queues_of, queues_to, GoesAt, GoesTo, IsPast, IsPlaceOf}
 
--- a number behind the last one
+-- a number after the last one
 pub goes_at_past : (n : ℕ) (lists : List (VecDeque NetLink Global)) → length lists ≤ n → GoesAt n (queues_of lists) (queues_of lists) [] []
 goes_at_past n [] le = (refl, refl, refl)
 goes_at_past zero (v ∷ rest) le = absurd (omega (arith, le))

@@ -3,7 +3,7 @@ use Rattle.std.specs.Prelude.{ℕ, Bool, List, eqb}
 use Rattle.std.specs.List.{list_any}
 use Rattle.sp_msg.specs.Marks.{one_more}
 
--- how many calls there were, and the numbers of those that fail
+-- the number of calls so far, and the numbers of those that fail
 pub record Calls : Type 0 where
   pub made : ℕ
   pub fails : List ℕ

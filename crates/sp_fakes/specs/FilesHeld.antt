@@ -22,7 +22,7 @@ held_by f = from_entries (named_entries f.pairs.items)
 abbrev pub files_view : MemFiles → FilesView
 files_view f = record { holds = Some (held_by f); faults = f.fault_count }
 
--- the readings, and which of them fail
+-- the readings, and those of them that fail
 abbrev pub readings_of : MemFiles → Calls
 readings_of f = record { made = f.calls; fails = f.fails.items }
 
@@ -31,8 +31,8 @@ IsCopy (whole.Bytes copy) bytes = copy ≡ bytes
 IsCopy whole.Failed bytes = ⊥
 IsCopy whole.NoMemory bytes = Unit {0}
 
--- a reading fails exactly where it is listed or nothing is held under the name; any other gives what is held, where
--- there is memory
+-- a reading fails exactly where it is listed or nothing is held under the name; any other reading gives what is held,
+-- if there is memory
 abbrev pub WholeBy : Whole → Bool → Option (List ℕ) → FilesView → FilesView → Type 0
 WholeBy (whole.Bytes bytes) listed held old new = (listed ≡ false) × (held ≡ Some bytes) × (new ≡ old)
 WholeBy whole.Failed listed held old new = ((listed ≡ true) ⊎ (held ≡ None)) × (new ≡ record { holds = old.holds; faults = one_more old.faults })

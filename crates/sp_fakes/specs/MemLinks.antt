@@ -23,11 +23,11 @@ link_view l = record {
 abbrev pub written_on : MemLink → List ℕ
 written_on l = l.kept.items
 
--- what it goes by from now on
+-- its script from now on
 abbrev pub link_script : MemLink → LinkScript
 link_script l = record { left = left_at l.script.items l.at l.offset; most = l.most; writes = record { made = l.writes; fails = l.fails.items } }
 
--- what it went by when it was made
+-- its script when it was made
 abbrev pub as_made : MemLink → LinkScript
 as_made l = record { left = l.script.items; most = l.most; writes = record { made = 0; fails = l.fails.items } }
 

@@ -20,7 +20,7 @@ frames_in (steps.End ∷ rest) = frames_in rest
 frames_in (steps.Malformed ∷ rest) = frames_in rest
 
 -- what it shows as a wire; the steps of its script that were not passed; the numbers of the pulls that fail; how often
--- it was pulled; and how many messages more it takes
+-- it was pulled; and how many more messages it takes
 pub record MemView : Type 0 where
   pub wire : WireView
   pub left : List WireStep
@@ -49,8 +49,8 @@ GivesBytes b rest ins.Failed left = ⊥
 GivesBytes b rest ins.Refused left = ⊥
 GivesBytes b rest ins.NoMemory left = left ≡ steps.Bytes b ∷ rest
 
--- what a pull gives by the steps that are left, and which are left after it: after the last one nothing is there, for
--- ever; the end and a malformed message are not passed
+-- what a pull gives, by the steps that are left, and the steps left after it: after the last one nothing is there,
+-- forever; the end and a malformed message are not passed
 abbrev pub GivesNext : List WireStep → WireIn → List WireStep → Type 0
 GivesNext [] result left = (result ≡ ins.NotYet) × (left ≡ [])
 GivesNext (steps.Bytes b ∷ rest) result left = GivesBytes b rest result left
@@ -63,14 +63,14 @@ abbrev pub Gives : Bool → List WireStep → WireIn → List WireStep → Type 
 Gives true old result left = (result ≡ ins.Failed) × (left ≡ old)
 Gives false old result left = GivesNext old result left
 
--- a pull fails exactly where its number is among those, and goes by the script otherwise
+-- a pull fails exactly where its number is among those, and otherwise follows the script
 pub record MemPulled (result : WireIn) (old new : MemView) : Type 0 where
   pub gives : Gives (is_among old.pulls old.fails) old.left result new.left
   pub pulls : new.pulls ≡ one_more old.pulls
   pub fails : new.fails ≡ old.fails
   pub room : new.room ≡ old.room
 
--- Full exactly where it takes no message more
+-- Full exactly where it takes no further message
 abbrev pub HasRoom : Room → ℕ → Type 0
 HasRoom rooms.Yes room = 0 < room
 HasRoom rooms.Full room = room ≡ 0
@@ -78,7 +78,7 @@ HasRoom rooms.Failed room = ⊥
 HasRoom rooms.Refused room = ⊥
 HasRoom rooms.NoMemory room = 0 < room
 
--- beside what it shows as a wire nothing changed
+-- nothing changed except what it shows as a wire
 pub record OnlyWire (old new : MemView) : Type 0 where
   pub left : new.left ≡ old.left
   pub fails : new.fails ≡ old.fails

@@ -52,7 +52,7 @@ queues_of lists = map (λ links. queue_of links.items) lists
 abbrev pub queues_to : List (Addr × VecDeque NetLink Global) → List (Addr × Queue)
 queues_to lists = map (λ d. (d.0, queue_of d.1.items)) lists
 
--- the same of links that no net has yet
+-- the same for links that no net has yet
 abbrev pub all_as_made : List MemLink → Queue
 all_as_made links = map as_made links
 
@@ -62,7 +62,7 @@ lists_as_made lists = map (λ links. all_as_made links.items) lists
 abbrev pub dials_as_made : List (Addr × Vec MemLink Global) → List (Addr × Queue)
 dials_as_made lists = map (λ d. (d.0, all_as_made d.1.items)) lists
 
--- the calls of listen, accept and dial, and which of them fail; how many listeners there are; the links that wait for
+-- the calls of listen, accept and dial, and those of them that fail; the number of listeners; the links that wait for
 -- each listener, by its number, and for each address
 pub record NetScript : Type 0 where
   pub calls : Calls
@@ -83,21 +83,21 @@ abbrev pub RefusedAs : Bool → Bool → ℕ → Type 0
 RefusedAs true listed opened = (listed ≡ true) ⊎ (2 ^ 32 - 2 ≤ opened)
 RefusedAs false listed opened = (listed ≡ false) × (opened < 2 ^ 32 - 2)
 
--- of these queues the one of this number goes from queue to queue', and no other changes; a number behind the last one
--- has an empty queue
+-- the queue with this number goes from queue to queue', and no other changes; a number after the last one has an empty
+-- queue
 abbrev pub GoesAt : ℕ → List Queue → List Queue → Queue → Queue → Type 0
 GoesAt n [] new queue queue' = (new ≡ []) × (queue ≡ []) × (queue' ≡ [])
 GoesAt zero (first ∷ rest) new queue queue' = (queue ≡ first) × (new ≡ queue' ∷ rest)
 GoesAt (suc n) (first ∷ rest) new queue queue' = (rest' : List Queue) × GoesAt n rest rest' queue queue' × (new ≡ first ∷ rest')
 
--- and the first one of this address; an address without one has an empty queue
+-- the same for the first queue of this address; an address without one has an empty queue
 abbrev pub GoesTo : Addr → List (Addr × Queue) → List (Addr × Queue) → Queue → Queue → Type 0
 GoesTo addr [] new queue queue' = (new ≡ []) × (queue ≡ []) × (queue' ≡ [])
 GoesTo addr (first ∷ rest) new queue queue' =
     ((first.0 ≡ addr) × (queue ≡ first.1) × (new ≡ (first.0, queue') ∷ rest))
     ⊎ (¬ (first.0 ≡ addr) × ((rest' : List (Addr × Queue)) × GoesTo addr rest rest' queue queue' × (new ≡ first ∷ rest')))
 
--- the first link that waits for the listener is handed out as it was made; nobody is there only where none waits; a
+-- the first link that waits for the listener is handed out as it was made; there is none only where no link waits; a
 -- failed call uses up no link
 abbrev pub AcceptsBy : Linked NetLink → ℕ → Bool → ℕ → List Queue → List Queue → Type 0
 AcceptsBy (linked.Got link) at listed opened old new = RefusedAs false listed opened × ((queue : Queue) × GoesAt at old new (link_script link.link ∷ queue) queue)
@@ -105,7 +105,7 @@ AcceptsBy linked.NotYet at listed opened old new = RefusedAs false listed opened
 AcceptsBy linked.Begun at listed opened old new = ⊥
 AcceptsBy linked.Failed at listed opened old new = RefusedAs true listed opened × (new ≡ old)
 
--- and so it is with those that wait for the address
+-- and the same for the links that wait for the address
 abbrev pub DialsBy : Linked NetLink → Addr → Bool → ℕ → List (Addr × Queue) → List (Addr × Queue) → Type 0
 DialsBy (linked.Got link) addr listed opened old new = RefusedAs false listed opened × ((queue : Queue) × GoesTo addr old new (link_script link.link ∷ queue) queue)
 DialsBy linked.NotYet addr listed opened old new = RefusedAs false listed opened × GoesTo addr old new [] []
@@ -135,7 +135,7 @@ pub record DialBy (result : Linked NetLink) (addr : Addr) (opened : ℕ) (old ne
   pub accepts : new.accepts ≡ old.accepts
   pub dials : DialsBy result addr (next_fails old.calls) opened old.dials new.dials
 
--- a fault is one that is returned, and nothing else counts as one
+-- a fault is one that is returned, and only that counts as one
 abbrev pub faults_listened : Listened → ℕ → ℕ
 faults_listened (listened.At n) faults = faults
 faults_listened listened.Failed faults = one_more faults
@@ -146,11 +146,11 @@ faults_linked linked.NotYet faults = faults
 faults_linked linked.Begun faults = faults
 faults_linked linked.Failed faults = one_more faults
 
--- none of the first lists is for this address
+-- none of the first lists belongs to this address
 abbrev pub IsPast : Addr → List (Addr × VecDeque NetLink Global) → ℕ → Type 0
 IsPast addr lists n = (k : ℕ) → k < n → (d : Addr × VecDeque NetLink Global) → slice_get lists k ≡ Some d → ¬ (d.0 ≡ addr)
 
--- and the one at this place is
+-- and the one at this place does
 abbrev pub IsPlaceOf : Addr → List (Addr × VecDeque NetLink Global) → ℕ → Type 0
 IsPlaceOf addr lists at = IsPast addr lists at × (at < length lists) × ((d : Addr × VecDeque NetLink Global) → slice_get lists at ≡ Some d → d.0 ≡ addr)
 
@@ -170,18 +170,18 @@ IsHandedOn (Some l) linked.NotYet = ⊥
 IsHandedOn (Some l) linked.Begun = ⊥
 IsHandedOn (Some l) linked.Failed = ⊥
 
--- nothing was asked of it
+-- a net before any call
 abbrev pub fresh_net : NetView
 fresh_net = record { listens = empty; opened = 0; back = empty; faults = 0; idles = 0 }
 
--- a link was asked for, of this scheme where there is one
+-- a link was asked for, with this scheme if one is given
 abbrev pub IsLinked : Linked NetLink → Option Scheme → NetView → NetView → Type 0
 IsLinked result wanted old new = AfterLinking (λ (l : NetLink). link_view l.link) result wanted old new
 
--- no listener was added, whatever the address
+-- no listener was added, for any address
 abbrev pub HasNoListener : Listened → NetView → NetView → Type 0
 HasNoListener result old new = (addr : Addr) → AfterListen result addr old new
 
--- there is no link, whatever was asked for
+-- there is no link, for any request
 abbrev pub HasNone : Linked NetLink → NetView → NetView → Type 0
 HasNone result old new = (wanted : Option Scheme) → IsLinked result wanted old new

@@ -23,8 +23,8 @@ pub struct MemFiles {
 }
 
 impl MemFiles {
-    /// Files by their names; of two with one name the first counts. The calls with these numbers fail, and so
-    /// does one for a name that isn't there.
+    /// Files by their names; of two with the same name the first counts. The calls with these numbers fail, and so does
+    /// one for a name that isn't there.
     pub fn new(alloc: Global, pairs: Vec<(String, Bytes)>, fails: Vec<u64>) -> MemFiles
         ensures holds { files_view result ≡ record { holds = Some (map.from_entries (named_entries pairs.items)); faults = 0 } }
         ensures readings { readings_of result ≡ record { made = 0; fails = fails.items } }

@@ -1,7 +1,7 @@
-//! The outside in memory: links that read by a script, a net that hands them out, a pace of so many turns, a sink
-//! that keeps what was put, files, and wires of whole messages. Each is proved against its trait and tells its
-//! contents, so that a test shows what a caller did. Lists of numbers say which calls fail, the first call being
-//! number 0.
+//! The outside in memory: links that read by a script, a net that hands them out, a pace with a given number of turns,
+//! a sink that keeps what was put, files, and wires of whole messages. Each is proved against its trait and tells
+//! contracts its contents, so that a test shows what a caller did. Lists of numbers say which calls fail; the first
+//! call is number 0.
 #![tactic(auto)]
 
 ghost use Rattle.std.specs.Prelude.{◌≡◌};
@@ -21,7 +21,7 @@ pub use pace::MemPace;
 pub use sink::MemSink;
 pub use wire::{MemWire, WireStep};
 
-// A number stands in the list of those that fail.
+// Returns whether a number is in the list of those that fail.
 fn is_listed(fails: &[u64], call: u64) -> bool
     ensures { result ≡ is_among call fails.now }
 {

@@ -11,19 +11,19 @@ use std::alloc::Global;
 /// A step of what a link gives.
 #[derive(Debug, Drop)]
 pub enum LinkStep {
-    /// These bytes, in pieces of at most the buffer's length. No bytes are passed over.
+    /// These bytes, in pieces of at most the buffer's length. A step without bytes is skipped.
     Bytes(Bytes),
     /// Nothing is there, once.
     NotYet,
-    /// Nothing is there until so many bytes were written in all.
+    /// Nothing is there until this many bytes were written in all.
     After(u64),
-    /// The end, for ever.
+    /// The end, forever.
     End,
     /// A fault, once.
     Fail,
 }
 
-/// After a script that doesn't end nothing more is there, for ever.
+/// A link in memory. After a script that doesn't end nothing more is there, forever.
 #[derive(Debug, Drop)]
 pub struct MemLink {
     script: Vec<LinkStep>,
@@ -46,8 +46,8 @@ pub struct MemLink {
 impl MemLink {
     ghost use Rattle.sp_fakes.specs.MemLinks.{link_view, link_script, as_made, unread_at};
 
-    /// Reads by the script, and takes at most `take` bytes at a write; the writes with these numbers fail, and so
-    /// does one for which there is no memory.
+    /// Reads by the script, and takes at most `take` bytes at a write. The writes with these numbers fail, and so does
+    /// a write for which there is no memory.
     pub fn new(alloc: Global, script: Vec<LinkStep>, take: usize, fails: Vec<u64>) -> MemLink
         ensures unread { link_view result ≡ unread_at 0 Scheme.Tcp }
         ensures made { as_made result ≡ record { left = script.items; most = take; writes = record { made = 0; fails = fails.items } } }
@@ -78,7 +78,7 @@ impl MemLink {
         &self.kept
     }
 
-    /// Whether it may be read and written.
+    /// Returns whether it may be read and written.
     pub fn is_open(&self) -> bool
         ensures { result ≡ (link_view self.now).is_open }
     {
@@ -221,7 +221,7 @@ impl Link for MemLink {
     }
 }
 
-// Whether a step has nothing more to give.
+// Returns whether a step has nothing more to give.
 fn is_spent(step: &LinkStep, offset: usize, written: u64) -> bool
     ensures spent { result ≡ true → IsSpent step.now offset written }
     ensures left { result ≡ false → HasLeft step.now offset written }
@@ -250,7 +250,7 @@ fn skip(script: &[LinkStep], at: &mut usize, offset: &mut usize, written: u64)
     }
 }
 
-// Copies the bytes behind the first ones, as many as there is room for.
+// Copies the bytes after the first ones, as many as there is room for.
 fn copy_prefix(bytes: &[u8], offset: usize, buf: &mut [u8]) -> usize
     requires some { offset < length bytes.now }
     requires room { 0 < length buf.old }

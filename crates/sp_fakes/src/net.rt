@@ -28,7 +28,7 @@ pub enum Returned {
 }
 
 impl Drop for Returned {
-    // One after the other: a long list would be too deep to let go by recursion.
+    // Drops them one after another: a long list is too deep for a recursive drop.
     fn drop(mut self) {
         loop {
             match self {
@@ -82,7 +82,7 @@ impl Link for NetLink {
     }
 }
 
-/// For each listener and each dialed address a list of the links that come.
+/// A net that has, for each listener and each dialed address, a list of the links that come.
 #[derive(Drop)]
 pub struct MemNet {
     incoming: Vec<VecDeque<NetLink>>,
@@ -136,8 +136,9 @@ fn addresses_with_nodes(
 }
 
 impl MemNet {
-    /// For each listener, in the order of `listen`, and for each address that is dialed the links that come, the
-    /// first first; one without a list has none. Calls of `listen`, `accept` and `dial` with these numbers fail.
+    /// A net with, for each listener in the order of `listen` and for each address that is dialed, the links that come,
+    /// the first one first; one without a list has none. Calls of `listen`, `accept` and `dial` with these numbers
+    /// fail.
     pub fn new(
         alloc: Global,
         incoming: Vec<Vec<MemLink>>,
@@ -180,14 +181,14 @@ impl MemNet {
         None
     }
 
-    /// How many links were handed out.
+    /// The number of links that were handed out.
     pub fn opened(&self) -> u32
         ensures { result ≡ (net_view self.now).opened }
     {
         self.handed
     }
 
-    // Whether this call is listed.
+    // Returns whether this call is listed.
     fn fails(&mut self) -> bool
         ensures view { net_view self.new ≡ net_view self.old }
         ensures listed { result ≡ next_fails (net_script self.old).calls }
@@ -198,7 +199,7 @@ impl MemNet {
         fails
     }
 
-    // Whether this accept or dial fails.
+    // Returns whether this accept or dial fails.
     fn refuses(&mut self) -> bool
         ensures view { net_view self.new ≡ net_view self.old }
         ensures refused { RefusedAs result (next_fails (net_script self.old).calls) (net_view self.old).opened }
@@ -208,7 +209,7 @@ impl MemNet {
         fails || self.handed >= u32::MAX - 1
     }
 
-    // Nobody is there.
+    // Counts and returns that there is no link.
     fn idle(&mut self) -> Linked<NetLink>
         ensures none { HasNone result (net_view self.old) (net_view self.new) }
         ensures returned { result ≡ Linked.NotYet }
@@ -219,7 +220,7 @@ impl MemNet {
         Linked::NotYet
     }
 
-    // A fault.
+    // Counts and returns a fault.
     fn fault(&mut self) -> Linked<NetLink>
         ensures none { HasNone result (net_view self.old) (net_view self.new) }
         ensures returned { result ≡ Linked.Failed }
@@ -230,7 +231,7 @@ impl MemNet {
         Linked::Failed
     }
 
-    // No listener was added.
+    // Counts and returns that no listener was added.
     fn no_listener(&mut self) -> Listened
         ensures returned { result ≡ Listened.Failed }
         ensures none { HasNoListener result (net_view self.old) (net_view self.new) }

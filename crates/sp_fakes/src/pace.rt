@@ -1,9 +1,9 @@
-//! A pace of so many turns.
+//! A pace with a given number of turns.
 ghost use Rattle.std.specs.Prelude.{◌≡◌, ◌≤◌, ◌<◌, ◌^◌, false};
 
 use sp_base::{Pace, Paced, Tick};
 
-/// Turns at the ticks 0, step, 2 step and so on; the last tick that there is stays.
+/// Turns at the ticks 0, step, 2 step and so on; the last possible tick stays.
 #[derive(Debug, Drop)]
 pub struct MemPace {
     turns: u64,
@@ -18,7 +18,7 @@ pub struct MemPace {
 impl MemPace {
     ghost use Rattle.sp_fakes.specs.Paces.{pace_view, ticks_of};
 
-    /// So many turns, so many milliseconds apart.
+    /// A pace of `left` turns, `step` milliseconds apart.
     pub fn new(left: u64, step: u64) -> MemPace
         ensures turns { pace_view result ≡ record { left = left; latest = 0; is_over = false } }
         ensures ticks { ticks_of result ≡ record { next = 0; step = step } }
@@ -32,14 +32,14 @@ impl MemPace {
         }
     }
 
-    /// How many turns are left.
+    /// The number of turns that are left.
     pub fn left(&self) -> u64
         ensures { result ≡ (pace_view self.now).left }
     {
         self.turns
     }
 
-    /// Whether it has returned that no turn is left.
+    /// Returns whether it has returned that no turn is left.
     pub fn is_over(&self) -> bool
         ensures { result ≡ (pace_view self.now).is_over }
     {

@@ -8,7 +8,7 @@ use crate::is_listed;
 use sp_base::{Sink, Sunk};
 use std::alloc::Global;
 
-/// A sink that keeps what was put, and whose puts fail by their numbers.
+/// A sink that keeps what was put, and whose puts fail by number.
 #[derive(Debug, Drop)]
 pub struct MemSink {
     kept: Vec<u8>,
@@ -18,7 +18,7 @@ pub struct MemSink {
 }
 
 impl MemSink {
-    /// The puts with these numbers fail, and so does one for which there is no memory.
+    /// The puts with these numbers fail, and so does a put for which there is no memory.
     pub fn new(alloc: Global, fails: Vec<u64>) -> MemSink
         ensures empty { sink_view result ≡ record { text = Some []; faults = 0 } }
         ensures puts { puts_of result ≡ record { made = 0; fails = fails.items } }

@@ -18,22 +18,22 @@ pub enum WireStep {
     Bytes(Bytes),
     /// Nothing is there, once.
     NotYet,
-    /// The end, for ever.
+    /// The end, forever.
     End,
-    /// A malformed message, for ever.
+    /// A malformed message, forever.
     Malformed,
 }
 
-/// After a script without an end nothing more is there, for ever. What is put is written at once.
+/// A wire in memory. After a script without an end nothing more is there, forever. What is put is written at once.
 #[derive(Debug, Drop)]
 pub struct MemWire {
     /// Where memory for messages is taken.
     alloc: Global,
     /// What it gives.
     script: Vec<WireStep>,
-    /// How many steps were passed.
+    /// The number of steps that were passed.
     at: usize,
-    /// How many messages it takes in all.
+    /// The maximum number of messages that it takes.
     most: u64,
     /// The numbers of the pulls that fail.
     fails: Vec<u64>,
@@ -41,7 +41,7 @@ pub struct MemWire {
     pulls: u64,
     /// What was put.
     kept: Vec<Message>,
-    /// What it shows beside its bytes.
+    /// What it shows besides its bytes.
     marks: WireMarks,
 }
 
@@ -56,7 +56,7 @@ impl Model for MemWire {
     ghost invariant = { λ w. (w.at ≤ length w.script.items) × (w.marks.is_ready ≡ true → vec_len w.kept < vec_capacity w.kept) };
 }
 
-// Takes the room for one message more, where not so many are kept.
+// Makes room for one more message, where fewer than `most` are kept.
 fn take_room(kept: &mut Vec<Message>, most: u64) -> Room
     ensures items { kept.new.items ≡ kept.old.items }
     ensures grown { vec_capacity kept.old ≤ vec_capacity kept.new }
@@ -73,8 +73,8 @@ fn take_room(kept: &mut Vec<Message>, most: u64) -> Room
 }
 
 impl MemWire {
-    /// Pulls by the script, and takes at most so many messages; the pulls with these numbers fail, the first being
-    /// number 0, and use up no step.
+    /// Pulls by the script, and takes at most `room` messages. The pulls with these numbers fail, counted from 0, and
+    /// use up no step.
     pub fn new(alloc: Global, frames: Vec<WireStep>, room: u64, fails: Vec<u64>) -> MemWire
         ensures { result ≡ record { wire = unused_wire; left = frames.items; fails = fails.items; pulls = 0; room = room } }
     {
@@ -90,7 +90,7 @@ impl MemWire {
         }
     }
 
-    /// Whether it may be pulled, asked for room and flushed.
+    /// Returns whether it may be pulled, asked for room and flushed.
     pub fn is_open(&self) -> bool
         ensures { result ≡ self.now.wire.is_open }
     {

@@ -1,4 +1,4 @@
--- Operations that are open: what the turns of one caller say of them, and what leaves them open.
+-- Operations that are open: what the turns of one caller say about them, and what leaves them open.
 use Rattle.std.proofs.Common.{◌≡◌, ◌≢◌, refl, ap, sym, ◌∙◌, subst, List, [], ◌∷◌, ◌++◌, ℕ, ◌+◌, ◌<◌, ◌≤◌, Bool, true, false, cond, arith}
 use Rattle.std.specs.Prelude.{Option, Some, None, not, ◌&&◌, ◌==◌, ◌↔◌}
 use Rattle.std.proofs.lemmas.Bool.Decides.{nat_tests}
@@ -27,7 +27,7 @@ no_caller (Begin other k c act d ∷ p) op h = go (same_op other op) h (no_calle
     go false h again = again h
 no_caller (_ ∷ p) op h = no_caller p op h
 
--- what the whole says of an operation, and the turns of one caller alone
+-- what the whole history says about an operation, and what only the turns of one caller say
 record Own (k : ℕ) (op : OpName) (p q : List Entry) : Type 0 where
   counted : Counted p op
   untaken : caller_of p op ≡ None → took_count p op ≡ 0
@@ -125,13 +125,13 @@ at_first k op = record { counted = (refl, omega arith, λ p. omega arith); untak
 own_history : (z : Setting) (k : ℕ) (h : List (Turn Entry)) (op : OpName) → Legal z h → Own k op (past_of h) (past_of (turns_of k h))
 own_history z k h op l = own_all z k [] [] h op (at_first k op) l
 
--- an operation is open in the caller's turns just where it is in the whole
+-- an operation is open in the caller's turns exactly where it is open in the whole
 pub open_in_both : (z : Setting) (k : ℕ) (h : List (Turn Entry)) (op : OpName) → Legal z h → IsOpenOf k op (past_of (turns_of k h)) ↔ IsOpenOf k op (past_of h)
 open_in_both z k h op l =
     let o = own_history z k h op l in
     ((λ s. let b = o.begun s.0 in (b, o.taken b ∙ s.1)), λ s. (o.its_own s.0, sym (o.taken s.0) ∙ s.1))
 
--- ---- One turn more
+-- ---- One more turn
 
 last_turn : (z : Setting) (p : List Entry) (h : List (Turn Entry)) (t : Turn Entry) → LegalFrom z p (h ++ t ∷ []) → LegalFrom z p h × LegalTurn z (past_from p h) t
 last_turn z p [] t l = (tt, l.0)

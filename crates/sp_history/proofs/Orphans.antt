@@ -50,7 +50,7 @@ or_left : (a b : Bool) → a ≡ true → (a || b) ≡ true
 or_left true b h = refl
 or_left false b h = cc
 
--- what is left behind of some operations is among them
+-- what some operations leave behind is among them
 left_among : (h : How) (p : Begun → Bool) (ss : List Begun) (op : OpName) → list_any (λ o. same_op o.op op) (map (orphan_of h) (filter p ss)) ≡ true → list_any (is_of op) ss ≡ true
 left_among h p [] op k = k
 left_among h p (s ∷ ss) op k = go (p s) (same_op s.op op) refl k (left_among h p ss op)
@@ -72,7 +72,7 @@ ended_within cs h ss rs w =
 more_within : (os : List Orphan) (ss : List Begun) (s : Begun) → Within os ss → Within os (ss ++ s ∷ [])
 more_within os ss s w = record { found = λ op k. any_either (is_of op) ss (s ∷ []) ∙ or_left (list_any (is_of op) ss) (list_any (is_of op) (s ∷ [])) (w.found op k) }
 
--- of the orphans but one, all but it are left
+-- of the orphans except one, all others are left
 not_that : (os : List Orphan) (op other : OpName) → list_any (λ o. same_op o.op other) (filter (λ o. not (same_op o.op op)) os) ≡ true → (same_op op other ≡ false) × (list_any (λ o. same_op o.op other) os ≡ true)
 not_that [] op other h = cc
 not_that (o ∷ os) op other h = go (same_op o.op op) refl (same_op o.op other) refl h (not_that os op other)
@@ -108,7 +108,7 @@ still_there (s ∷ ss) op other n h = go (same_op s.op op) refl (same_op s.op ot
     go false e true f h again = rw f refl
     go false e false f h again = rw f (again h)
 
--- after an end: those that were within are within the rest, but for the one that ended
+-- after an end: those that were within are within the rest, except the one that ended
 less_within : (op : OpName) (os : List Orphan) (ss : List Begun) → Within os ss → Within (filter (λ o. not (same_op o.op op)) os) (without_begun ss op)
 less_within op os ss w = record { found = λ other k. let n = not_that os op other k in still_there ss op other n.0 (w.found other n.1) }
 

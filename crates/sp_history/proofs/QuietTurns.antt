@@ -26,7 +26,7 @@ use Rattle.sp_history.specs.Found.{is_begin, is_out}
 use Rattle.sp_history.proofs.OnceHolds.{has_value}
 use Rattle.sp_history.proofs.Surveys.{none_first, none_rest}
 
--- ---- Lists of none
+-- ---- Empty lists
 
 filter_none : {A : Type 0} (p q : A → Bool) (xs : List A) → filter p xs ≡ [] → filter p (filter q xs) ≡ []
 filter_none p q [] h = refl

@@ -12,7 +12,7 @@ use Rattle.sp_history.specs.Legal.{MayCome, Follows, LegalFrom}
 use Rattle.sp_history.specs.Found.{SameOfPipe}
 use Rattle.sp_history.proofs.Wiring.{has_more, has_before}
 
--- what is up is another pipe than one that is not
+-- a pipe that is up is not the pipe that isn't up
 another : (past : List Entry) (p q : ℕ) → has (up past) p ≡ false → has (up past) q ≡ true → (q == p) ≡ false
 another past p q off on = go (q == p) refl
   where

@@ -1,4 +1,4 @@
--- What stands in a history is what is found there, and its ticks are in order.
+-- What is in a history is what is found there, and its ticks are in order.
 use Rattle.std.proofs.Common.{◌≡◌, refl, sym, subst, List, [], ◌∷◌, ◌++◌, ℕ, zero, suc, ◌+◌, ◌≤◌, ◌<◌, max, Bool, true, false, arith, Option, Some}
 use Rattle.std.specs.Prelude.{◌==◌, ⊤, length, slice_index_or, if◌then◌else◌}
 use Rattle.std.specs.List.{Contains}

@@ -1,4 +1,4 @@
--- A survey stays live, or over, until it is begun anew or time goes on.
+-- A survey stays live, or over, until it is begun again or time passes.
 use Rattle.std.proofs.Common.{◌≡◌, refl, ap, sym, subst, ◌∙◌, List, [], ◌∷◌, ℕ, Bool, true, false, cond, Option, Some, None}
 use Rattle.std.specs.Prelude.{not, ◌==◌, ◌&&◌, ◌++◌, map, drop, filter, find, is_some, if◌then◌else◌}
 use Rattle.sp_history.specs.declared.entry.RecordedAct.TheVariants.{Recv, Send}

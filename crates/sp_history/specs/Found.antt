@@ -34,7 +34,7 @@ abbrev pub collects : OpName → Entry → Bool
 collects op (Took other k) = same_op other op
 collects op _ = false
 
--- with which entries a survey begins or ends
+-- the entries with which a survey begins or ends
 abbrev pub moves_surveys : Entry → Bool
 moves_surveys (Begin op k c (Send m) d) = true
 moves_surveys (Tick t due) = true
@@ -87,7 +87,7 @@ last_tick [] = 0
 last_tick (Tick t due ∷ past) = t
 last_tick (_ ∷ past) = last_tick past
 
--- what stands before the last tick
+-- what is before the last tick
 abbrev pub before_last_tick : List Entry → List Entry
 before_last_tick [] = []
 before_last_tick (Tick t due ∷ past) = past
@@ -105,7 +105,7 @@ AreOrdered (x ∷ xs) = IsLeast x xs × AreOrdered xs
 
 -- ---- Pipes
 
--- two pasts say the same of a pipe
+-- two pasts say the same about a pipe
 pub record SameOfPipe (p : ℕ) (past more : List Entry) : Type 0 where
   pub frames : frames more p ≡ frames past p
   pub outs : outs more p ≡ outs past p
@@ -123,6 +123,6 @@ abbrev pub is_by : ℕ → Option LastOut → Bool
 is_by t None = true
 is_by t (Some o) = nat_le o.when t
 
--- the request's last Out did
+-- the request's last Out came by this time
 abbrev pub is_out_by : ℕ → LiveRequest → Bool
 is_out_by t r = is_by t r.last_out

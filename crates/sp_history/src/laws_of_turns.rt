@@ -1,4 +1,4 @@
-//! Laws of histories: what stands in one is found there, which operations are open, and what no longer happens.
+//! Laws of histories: what is in one is found there, the operations that are open, and what no longer happens.
 //!
 //! Each function has an empty body, and is there for its contract.
 ghost use Rattle.std.specs.Prelude.{◌≡◌, ◌↔◌, ◌^◌, ◌<◌, ◌≤◌, length, ℕ, true, false, List, [], ◌∷◌, ◌++◌, Option, Some, is_some};
@@ -25,7 +25,7 @@ ghost use Rattle.sp_base.specs.declared.OpName.{OpName};
 
 // ---- Operations
 
-/// An operation is open in the turns of the caller that began it just where it is in the whole history.
+/// An operation is open in the turns of the caller that began it exactly where it is open in the whole history.
 pub fn own_turns_tell_what_is_open()
     ensures { (z : Setting) (k : ℕ) (history : List (Turn Entry)) (op : OpName) → Legal z history → IsOpenOf k op (past_of (turns_of k history)) ↔ IsOpenOf k op (past_of history) }
 {}
@@ -37,18 +37,18 @@ pub fn a_turn_leaves_it_open()
     ensures stays { (z : Setting) (history : List (Turn Entry)) (t : Turn Entry) (k : ℕ) (op : OpName) → Legal z (history ++ t ∷ []) → IsOpenOf k op (past_of history) → none_of (collects op) t.entries ≡ true → IsOpenOf k op (past_of (history ++ t ∷ [])) }
 {}
 
-/// Of a slot at which something was begun, the operation of the last generation was.
+/// If something was begun at a slot, then the operation with its last generation was begun.
 pub fn the_last_of_a_slot_was_begun()
     ensures { (z : Setting) (history : List (Turn Entry)) (slot : ℕ) → Legal z history → 0 < begins (past_of history) slot → 1 ≤ begin_count (past_of history) (record { slot = slot; generation = begins (past_of history) slot }) }
 {}
 
-/// A begin is refused because no slot is free just where each slot is taken.
+/// A begin is refused for want of a free slot exactly where each slot is taken.
 pub fn slots_are_taken()
     ensures means { (z : Setting) (past : List Entry) → has_no_slot z past ≡ true → (slot : ℕ) → slot < z.slots → is_taken past slot ≡ true }
     ensures enough { (z : Setting) (past : List Entry) → ((slot : ℕ) → slot < z.slots → is_taken past slot ≡ true) → has_no_slot z past ≡ true }
 {}
 
-/// A begin and an end that stand in a past are found there, where the operation is begun and ends at most once.
+/// A begin and an end that are in a past are found there, where the operation is begun and ends at most once.
 pub fn what_stands_is_found()
     ensures begins { (past : List Entry) (op : OpName) (k c : ℕ) (act : RecordedAct) (d : Option ℕ) → Contains past (Begin op k c act d) → begin_count past op ≤ 1 → (act_of past op ≡ Some act) × (caller_of past op ≡ Some k) }
     ensures ends { (past : List Entry) (op : OpName) (ending : Ending) → Contains past (End op ending) → end_count past op ≤ 1 → end_of past op ≡ Some ending }
@@ -70,13 +70,13 @@ pub fn a_pipe_that_is_down_is_silent()
     ensures down { (z : Setting) (past : List Entry) (turns : List (Turn Entry)) (p : ℕ) → LegalFrom z past turns → p ≤ ups past → has (up past) p ≡ false → has (up (past_from past turns)) p ≡ false }
 {}
 
-/// A turn puts nothing on a pipe where no send is pending and no request is live when it begins, and it begins nothing.
+/// A turn puts nothing on a pipe if no send is pending and no request is live when it begins, and if it begins nothing.
 pub fn nothing_goes_out_by_itself()
     ensures { (z : Setting) (past : List Entry) (t : Turn Entry) → LegalTurn z past t → sending (pend past) ≡ [] → (requests z past).live ≡ [] → none_of is_begin t.entries ≡ true → none_of is_out t.entries ≡ true }
 {}
 
-/// Of a cooked surveyor: whether a survey is live on a context changes with the begin of a send, a tick, a context that
-/// is shut and the close alone; and where none is live, none is until a send is begun.
+/// For a cooked surveyor: whether a survey is live on a context changes only with the begin of a send, a tick, a
+/// context that is shut and the close; and where none is live, none is until a send is begun.
 pub fn a_survey_stays()
     ensures gone { (z : Setting) → has_requests z ≡ true → is_req z.role ≡ false → (c : ℕ) (entries past : List Entry) → none_of begins_send entries ≡ true → is_some (live_on z past c) ≡ false → is_some (live_on z (onto entries past) c) ≡ false }
     ensures stays { (z : Setting) → has_requests z ≡ true → is_req z.role ≡ false → (c : ℕ) (entries past : List Entry) → none_of moves_surveys entries ≡ true → is_some (live_on z (onto entries past) c) ≡ is_some (live_on z past c) }

@@ -73,7 +73,7 @@ pushed_begun None left old new e p = ap (λ (v : InView). has_end v.put) p.1 ∙
 pushed_begun (Some m) None old new e p = ap (λ (v : InView). has_end v.put) p.is ∙ end_snoc old.put (items.Message m) e
 pushed_begun (Some m) (Some back) old new e p = ap (λ (v : InView). has_end v.put) p.1 ∙ e
 
--- what stays in hand may be put later
+-- what is kept in hand may be put later
 pushed_hand : (hand left : Option MessageView) (old new : InView) → IfSome hand (λ _. has_end old.put ≡ false) → Pushed hand left old new → IfSome left (λ _. has_end new.put ≡ false)
 pushed_hand None left old new e p = subst (λ (l : Option MessageView). IfSome l (λ _. has_end new.put ≡ false)) (sym p.0) tt
 pushed_hand (Some m) None old new e p = tt

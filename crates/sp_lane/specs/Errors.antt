@@ -1,4 +1,4 @@
--- The errors of NNG that the refusals of names are.
+-- The NNG errors for the refusals of names.
 use Rattle.sp_base.specs.declared.error.SpError.{SpError}
 use Rattle.sp_base.specs.declared.error.SpError.TheVariants as e
 use Rattle.sp_lane.specs.declared.inproc.InprocError.{InprocError}

@@ -1,4 +1,4 @@
-//! A wire over two lanes: what it puts goes into the one, what it pulls comes from the other.
+//! A wire over two lanes: what it puts goes into one, what it pulls comes from the other.
 ghost use Rattle.std.specs.Prelude.{◌≡◌, true, false, IfSome, Some};
 ghost use Rattle.sp_msg.specs.Views.{OverLanes};
 ghost use Rattle.sp_msg.specs.Wires.{AfterPull, AfterRoom, AfterPut, AfterFlush, AfterShut, may_flush};
@@ -11,8 +11,8 @@ use sp_msg::{Message, Room, Wire, WireFlush, WireIn, WireMarks};
 use std::marker::Model;
 use std::sync::Wait;
 
-/// A wire over two lanes (nng_inproc(7)). It keeps one message in hand, so `put` never fails. `pull` alone takes
-/// memory, where it joins a header and a body.
+/// A wire over two lanes (nng_inproc(7)). It keeps one message in hand, so `put` never fails. Only `pull` takes memory,
+/// where it joins a header and a body.
 #[derive(Drop)]
 pub struct LaneWire {
     /// Where messages are put.
@@ -23,9 +23,9 @@ pub struct LaneWire {
     hand: Option<Message>,
     /// The last message that was taken was lost when out of memory.
     lost: bool,
-    /// The wire was shut: a flush puts the end mark behind the message in hand.
+    /// The wire was shut: a flush puts the end mark after the message in hand.
     is_shut: bool,
-    /// What it shows beside its bytes.
+    /// What it shows besides its bytes.
     marks: WireMarks,
 }
 
@@ -39,7 +39,7 @@ impl Model for LaneWire {
     ghost invariant = { λ w. IsLaneWire w.out w.hand w.lost w.is_shut w.marks };
 }
 
-// The message as a wire gives it: all of it is body.
+// The message as a wire returns it: all of it is body.
 fn bare(m: Message) -> WireIn
     ensures { Joins m result }
 {
@@ -50,7 +50,7 @@ fn bare(m: Message) -> WireIn
     }
 }
 
-// What the next item of the lane comes to.
+// The result of a pull, from the next item of the lane.
 fn pull_from<R: Wait>(inp: &mut LaneOut, rt: &R) -> WireIn
     ensures { PulledFrom result inp.old inp.new }
 {
@@ -61,7 +61,7 @@ fn pull_from<R: Wait>(inp: &mut LaneOut, rt: &R) -> WireIn
     }
 }
 
-// Puts what is in hand into the lane, if it isn't full; what stays in hand comes back.
+// Puts what is in hand into the lane, if it isn't full; returns what stays in hand.
 fn push_hand<R: Wait>(out: &mut LaneIn, hand: Option<Message>, rt: &R) -> Option<Message>
     requires { IfSome hand (λ _. has_end out.old.put ≡ false) }
     ensures { Pushed hand result out.old out.new }
@@ -75,7 +75,7 @@ fn push_hand<R: Wait>(out: &mut LaneIn, hand: Option<Message>, rt: &R) -> Option
     }
 }
 
-// Puts the end mark where it is wanted, if the lane isn't full.
+// Puts the end mark, if `wanted` and the lane isn't full.
 fn try_end<R: Wait>(out: &mut LaneIn, wanted: bool, rt: &R)
     requires { wanted ≡ true → has_end out.old.put ≡ false }
     ensures { TriedEnd wanted out.old out.new }
@@ -88,7 +88,7 @@ fn try_end<R: Wait>(out: &mut LaneIn, wanted: bool, rt: &R)
     }
 }
 
-// The message in hand goes first, and behind it the end mark of a wire that was shut.
+// Puts the message in hand first, and after it the end mark if the wire was shut.
 fn drain<R: Wait>(out: &mut LaneIn, hand: Option<Message>, is_shut: bool, rt: &R) -> Option<Message>
     requires { IfSome hand (λ _. has_end out.old.put ≡ false) }
     ensures { Drained is_shut hand result out.old out.new }
@@ -132,7 +132,7 @@ fn is_lost(returned: &WireIn) -> bool
 }
 
 impl LaneWire {
-    /// A wire over two lanes, at the one of which nothing is ended. It counts from here on. No memory, no refusal.
+    /// A wire over two lanes, neither of which has ended. It counts from here on. Takes no memory and never fails.
     pub fn new(out: LaneIn, inp: LaneOut) -> LaneWire
         requires { has_end out.put ≡ false }
         ensures { result ≡ new_lane_wire out inp }
@@ -151,14 +151,14 @@ impl LaneWire {
         }
     }
 
-    /// Whether it may be pulled, asked for room and flushed.
+    /// Returns whether it may be pulled, asked for room and flushed.
     pub fn is_open(&self) -> bool
         ensures { result ≡ self.now.wire.is_open }
     {
         self.marks.is_open
     }
 
-    /// Whether room for one message was found and isn't used yet.
+    /// Returns whether room for one message was found and isn't used yet.
     pub fn is_ready(&self) -> bool
         ensures { result ≡ self.now.wire.is_ready }
     {

@@ -1,4 +1,4 @@
--- A link that began well did so, whatever follows.
+-- A link that began right stays so, whatever follows.
 use Rattle.std.proofs.Common.{◌≡◌, ◌++◌, ℕ, false, List, Option, Some, None, sym, ap, subst, ◌∙◌, append_assoc}
 use Rattle.sp_base.specs.Outside.{Told, grown, IsPrefix}
 use Rattle.sp_base.specs.Views.{LinkView}
@@ -9,7 +9,7 @@ use Rattle.sp_links.specs.Openings.{IsGood, Owes}
 use Rattle.sp_links.proofs.Later.{stays_good, owes_no_more}
 use Rattle.sp_links.specs.Opened.{IsBegun}
 
--- what is told says so
+-- what is told shows it
 abbrev Tells : Role → Way → Option (List ℕ) → Option (List ℕ) → Type 0
 Tells role way c w = Told c (λ came. Told w (λ written. IsGood role way came × ((owed : List ℕ) → Owes role way came owed → IsPrefix owed written)))
 

@@ -15,7 +15,7 @@ prefix_long : (xs ys : List ℕ) → IsPrefix xs ys → length xs ≤ length ys
 prefix_long xs ys f = omega (arith, ap length f.1, length-append xs f.0)
 
 module _ (n : ℕ) (came : List ℕ) (count : ℕ) (is : count ≡ min (length came) 8) where
-  -- so many bytes differ
+  -- the first `count` bytes differ
   pub bad_by : (take count came ≡ take count (hello n) → ⊥) → IsBadGreeting n came
   bad_by differs = (fewer, all)
     where
@@ -31,7 +31,7 @@ module _ (n : ℕ) (came : List ℕ) (count : ℕ) (is : count ≡ min (length c
           let k : count ≡ 8 = omega (arith, is, long, hello_long n) in
           differs (ap (λ (j : ℕ). take j came) k ∙ prefix_taken (hello n) came f ∙ sym (take_all 8 (hello n) (omega (arith, hello_long n))) ∙ ap (λ (j : ℕ). take j (hello n)) (sym k))
 
-  -- all of them are the same, and they are fewer than eight
+  -- the first `count` bytes are the same, and there are fewer than eight
   pub more_by : take count came ≡ take count (hello n) → count < 8 → IsPrefix came (hello n)
   more_by same few =
       let k : count ≡ length came = omega (arith, is, few) in

@@ -1,4 +1,4 @@
--- A head stays one, whatever follows.
+-- A head stays a head, whatever follows.
 use Rattle.std.proofs.Common.{◌≡◌, ◌≤◌, ◌+◌, ◌-◌, ◌++◌, ℕ, List, length, take, drop, sym, ap, subst, ◌∙◌, inl, inr, arith, append_assoc}
 use Rattle.std.proofs.lemmas.List.{take-append-le, drop-take, take-take, length-take, length-append, take_all, take-append-drop}
 use Rattle.std.proofs.lemmas.Bool.Decides.{leb_tells}
@@ -69,7 +69,7 @@ module _ (came more : List ℕ) where
 prefix_later : (xs came more : List ℕ) → IsPrefix xs came → IsPrefix xs (came ++ more)
 prefix_later xs came more f = (f.0 ++ more, ap (λ (v : List ℕ). v ++ more) f.1 ∙ append_assoc xs f.0 more)
 
--- of two lists that go on to one, the shorter is a prefix of the longer
+-- of two lists that continue to the same list, the shorter is a prefix of the longer
 prefix_of : (xs ys more rest : List ℕ) → ys ++ more ≡ xs ++ rest → length xs ≤ length ys → IsPrefix xs ys
 prefix_of xs ys more rest e fits =
     let is : take (length xs) ys ≡ xs = sym (take-append-le (length xs) ys more fits) ∙ ap (take (length xs)) e ∙ take-append-le (length xs) xs rest (omega arith) ∙ take_all (length xs) xs (omega arith) in

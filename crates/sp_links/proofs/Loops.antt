@@ -1,4 +1,4 @@
--- Writing on, and reading on.
+-- Writing to the end, and reading to the end.
 use Rattle.std.proofs.Common.{◌≡◌, ◌≤◌, ◌<◌, ◌+◌, ◌-◌, ◌++◌, ℕ, List, length, take, drop, Option, Some, None, refl, sym, ap, subst, ◌∙◌, arith}
 use Rattle.std.proofs.lemmas.List.{take-append-drop, take-append-le, drop-take, take-take, length-append, length-drop, take_all}
 use Rattle.sp_base.specs.Outside.{Told, grown, Rose}
@@ -68,7 +68,7 @@ module _ {L : Type 0} (seen : L → LinkView) (old n : Opening L) (link : L) whe
   saying : IsSaying old n → IsSaying old (record n { link = link })
   saying s = ap (λ (m : Opening L). record m { link = link }) s
 
-  -- so many bytes more went
+  -- k more bytes went
   pub says_on : (k : ℕ) (buf : List ℕ) → Saying seen old n → buf ≡ drop n.said n.own → AfterWrite (writes.Took k) buf (seen n.link) (seen link) → Saying seen old (record n { link = link; said = n.said + k })
   says_on k buf s is x =
       let st = s.stands in

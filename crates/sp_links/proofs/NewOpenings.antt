@@ -1,4 +1,4 @@
--- A link that was handed out just now.
+-- A link that was just handed out.
 use Rattle.std.proofs.Common.{◌≡◌, ℕ, zero, suc, List, [], None, refl, sym, subst, arith}
 use Rattle.sp_base.specs.Outside.{Told}
 use Rattle.sp_base.specs.SpTcp.{hello}

@@ -1,4 +1,4 @@
--- What a try to go on comes to.
+-- What a try to go on gives.
 use Rattle.std.proofs.Common.{◌≡◌, ◌≤◌, ◌<◌, ◌++◌, ℕ, List, [], length, take, Option, Some, None, refl, sym, ap, subst, ◌∙◌, arith, inl, inr}
 use Rattle.std.specs.Prelude.{◌⊎◌}
 use Rattle.std.proofs.lemmas.List.{append-nil, length-take, take_all}
@@ -34,7 +34,7 @@ module _ {L : Type 0} (seen : L → LinkView) (n : Opening L) (stands : Stands s
   pub undone : IsMissing n n.used → IsUndone seen n
   undone m = undone_by n.used refl m
 
-  -- it took nothing once
+  -- it once took nothing
   pub stalled : 1 ≤ (seen n.link).stalls → HasTried seen n
   stalled s = go (seen n.link).came (seen n.link).written
     where
@@ -66,7 +66,7 @@ missing_none : {L : Type 0} (n : Opening L) (u : Option ℕ) → u ≡ None → 
 missing_none n None e = tt
 missing_none n (Some u) e = absurd (cc e)
 
--- ---- One behind the other
+-- ---- One step after another
 
 pub same_after : {L : Type 0} (a b c : Opening L) → IsSame a b → IsSame b c → IsSame a c
 same_after a b c x y = record { role = y.role ∙ x.role; way = y.way ∙ x.way }
@@ -127,7 +127,7 @@ module _ {L : Type 0} (seen : L → LinkView) where
   opened_by : (old new : Opening L) (u : ℕ) → old.used ≡ Some u → IsSaying old new → Stands seen new → new.said ≡ length new.own → IsOpened seen new
   opened_by old new u e s st all = record { stands = st; said = all; used = u; used_is = ap (λ (n : Opening L). n.used) s ∙ e }
 
-  -- where it is right, and what is owed for it is written, or a part
+  -- where it is right, and all or part of what is owed for it is written
   pub answered : (p : Progress) (old mid new : Opening L) → HeardTo seen progress.Opened old mid → IsLater (seen old.link) (seen mid.link) → SaidTo seen p mid new → OpenedTo seen p old new
   answered progress.Opened old mid new h l s = record { came_to = opened_by mid new h.so.1.0 h.so.1.1 s.same s.so.0 s.so.1; same = same_after old mid new h.same (is_same mid new s.same) }
   answered progress.Waits old mid new h l s = opened_from progress.Waits old mid new h.same l (said_to progress.Waits mid new s (λ e. cc e))

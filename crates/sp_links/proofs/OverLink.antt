@@ -1,4 +1,4 @@
--- A wire over a link that is opened.
+-- A wire over a link whose opening is done.
 use Rattle.std.proofs.Common.{◌≡◌, ◌≤◌, ◌<◌, ◌+◌, ◌++◌, ℕ, List, [], length, take, drop, Option, Some, None, refl, sym, ap, subst, ◌∙◌, arith}
 use Rattle.std.proofs.lemmas.List.{append-nil, length-take, length-append, take_all}
 use Rattle.std.proofs.Math.Seq.{drop-append_seam}

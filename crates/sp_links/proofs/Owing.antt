@@ -1,4 +1,4 @@
--- What is owed, and when it is.
+-- What is owed, and when.
 use Rattle.std.proofs.Common.{◌≡◌, ◌++◌, ℕ, List, sym, ap, subst, ◌∙◌}
 use Rattle.std.proofs.lemmas.List.{append-nil}
 use Rattle.sp_base.specs.declared.role.Role.{Role}
@@ -45,7 +45,7 @@ good_owes role ways.Greeting u first a came b x = ap (λ (t : List ℕ). first +
 good_owes role (ways.Serves path) u first a came b x = (u, subst (λ (t : List ℕ). ServerAnswers (heads.Good u t) came role path) (sym (ap (λ (t : List ℕ). t ++ a) b)) x)
 good_owes role (ways.Asks addr start) u first a came (h, p, d, is) x = (h, p, d, ap (λ (t : List ℕ). first ++ t) x.3.answer_is ∙ append-nil first ∙ is)
 
--- and nothing else
+-- and nothing else is owed
 pub owes_one : (role : Role) (way : Way) (u : ℕ) (first a came owed : List ℕ) → Begins role way first → OpensWith role way u a came → Owes role way came owed → owed ≡ first ++ a
 owes_one role ways.Greeting u first a came owed b x o = o ∙ sym (good_owes role ways.Greeting u first a came b x)
 owes_one role (ways.Serves path) u first a came owed b x (v, o) = same_good v u owed a (one_server_answer role path came (heads.Good v owed) (heads.Good u a) o x (λ e. cc e) (λ e. cc e)) ∙ sym (ap (λ (t : List ℕ). t ++ a) b)

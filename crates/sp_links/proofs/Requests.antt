@@ -31,7 +31,7 @@ same_host addr h k p q x y =
     let texts : host_text x.a x.b x.c x.d x.port ≡ host_text y.a y.b y.c y.d y.port = cc both in
     x.host_is ∙ texts ∙ sym y.host_is
 
--- and no other
+-- and only one
 pub one_request : (role : Role) (addr : Addr) (start : ℕ) (s t : List ℕ) → IsRequestFor role (ways.Asks addr start) s → IsRequestFor role (ways.Asks addr start) t → s ≡ t
 one_request role addr start s t (h, p, x, is) (k, q, y, js) =
     is ∙ ap (λ (v : List ℕ). request_text (role_peer role) v p (key_of start)) (same_host addr h k p q x y) ∙ ap (λ (v : List ℕ). request_text (role_peer role) k v (key_of start)) (same_path addr h k p q x y) ∙ sym js

@@ -66,7 +66,7 @@ Flushed returned (wires.Ws old) (wires.Ws new) = WsFlush returned old.ws new.ws 
 Flushed returned (wires.Lane old) (wires.Lane new) = LaneFlushed returned old new
 Flushed returned _ _ = ⊥
 
--- the link and what it carries stay; the message is in hand
+-- the link and what it carries stay; the message is kept
 abbrev pub Puts : {L : Type 0} → MessageView → EndWire L → EndWire L → Type 0
 Puts m (wires.Tcp old) (wires.Tcp new) = new.link ≡ old.link
 Puts m (wires.Ws old) (wires.Ws new) =

@@ -1,4 +1,4 @@
--- A link that is on its way, and how far it comes.
+-- A link in its opening, and how far it is.
 use Rattle.std.specs.Prelude.{◌≡◌, ◌≤◌, ◌<◌, ◌++◌, ◌⊎◌, ℕ, ⊤, true, List, length, take, Option, Some, None}
 use Rattle.sp_base.specs.Outside.{Told, Rose}
 use Rattle.sp_base.specs.Views.{LinkView}
@@ -17,7 +17,7 @@ abbrev pub IsOwn : Role → Way → List ℕ → List ℕ → Option ℕ → Typ
 IsOwn role way own came None = Begins role way own × IsMore role way came
 IsOwn role way own came (Some used) = (first : List ℕ) × (answer : List ℕ) × Begins role way first × OpensWith role way used answer came × (own ≡ first ++ answer)
 
--- the link brought all that is kept, and so many bytes are written
+-- the link brought all that is kept, and `said` bytes are written
 pub record Stands {L : Type 0} (seen : L → LinkView) (n : Opening L) : Type 0 where
   pub is_open : (seen n.link).is_open ≡ true
   pub came : Told (seen n.link).came (λ s. s ≡ n.came)
@@ -60,29 +60,29 @@ pub record IsLater (old new : LinkView) : Type 0 where
 abbrev pub HasWaited : LinkView → LinkView → Type 0
 HasWaited old new = Rose old.idles new.idles ⊎ Rose old.stalls new.stalls
 
--- something is still to be written, and the link took nothing; or nothing is, and it brought nothing
+-- something is still to be written and the link took nothing, or nothing is and it brought nothing
 abbrev pub WaitsFor : {L : Type 0} → (L → LinkView) → LinkView → Opening L → Type 0
 WaitsFor seen old n =
     ((n.said < length n.own) × Rose old.stalls (seen n.link).stalls) ⊎ ((n.said ≡ length n.own) × Rose old.idles (seen n.link).idles)
 
--- of a new one
+-- for a new one
 pub record IsFresh {L : Type 0} (seen : L → LinkView) (link : L) (role : Role) (way : Way) (n : Opening L) : Type 0 where
   pub link_is : n.link ≡ link
   pub role_is : n.role ≡ role
   pub way_is : n.way ≡ way
 
--- ---- What a try came to
+-- ---- The result of a try
 
 module _ {L : Type 0} (seen : L → LinkView) (n : Opening L) where
   -- the link isn't complete
   abbrev pub IsUndone : Type 0
   IsUndone = IsComplete (openings n.role (λ way. ⊤)) n.way (seen n.link) → ⊥
 
-  -- a part of what is owed is missing only where the link took nothing once
+  -- a part of what is owed is missing only where the link once took nothing
   abbrev pub HasTried : Type 0
   HasTried = WroteOrStalled (openings n.role (λ way. ⊤)) n.way (seen n.link)
 
-  -- nothing is written but what is owed before anything came
+  -- only that is written which is owed before anything came
   abbrev pub IsUnanswered : Type 0
   IsUnanswered = Told (seen n.link).written (λ w. Begins n.role n.way w)
 
@@ -98,7 +98,7 @@ CameTo seen progress.Ended old new = ((seen new.link).ended ≡ true) × IsUndon
 CameTo seen progress.Failed old new = (1 ≤ (seen new.link).faults) × IsUndone seen new
 CameTo seen progress.NoMemory old new = ⊤
 
--- the same way
+-- the role and the way are the same
 pub record IsSame {L : Type 0} (old new : Opening L) : Type 0 where
   pub role : new.role ≡ old.role
   pub way : new.way ≡ old.way
@@ -107,7 +107,7 @@ pub record OpenedTo {L : Type 0} (seen : L → LinkView) (result : Progress) (ol
   pub came_to : CameTo seen result (seen old.link) new
   pub same : IsSame old new
 
--- the same, but for what is written
+-- the same, except for what is written
 abbrev pub IsSaying : {L : Type 0} → Opening L → Opening L → Type 0
 IsSaying old new = new ≡ record old { link = new.link; said = new.said }
 
@@ -119,7 +119,7 @@ SaidSo seen progress.Ended old new = ⊥
 SaidSo seen progress.Failed old new = (1 ≤ (seen new.link).faults) × Stands seen new × (new.said < length new.own)
 SaidSo seen progress.NoMemory old new = ⊥
 
--- what a try to write came to
+-- the result of a try to write
 pub record SaidTo {L : Type 0} (seen : L → LinkView) (result : Progress) (old new : Opening L) : Type 0 where
   pub so : SaidSo seen result (seen old.link) new
   pub same : IsSaying old new
@@ -132,12 +132,12 @@ HeardSo seen progress.Ended old new = IsHearing seen new × ((seen new.link).end
 HeardSo seen progress.Failed old new = IsHearing seen new × (1 ≤ (seen new.link).faults)
 HeardSo seen progress.NoMemory old new = ⊤
 
--- what a try to read came to
+-- the result of a try to read
 pub record HeardTo {L : Type 0} (seen : L → LinkView) (result : Progress) (old new : Opening L) : Type 0 where
   pub so : HeardSo seen result (seen old.link) new
   pub same : IsSame old new
 
--- what a piece made of it
+-- what taking a piece changes
 abbrev pub TakenIn : {L : Type 0} → Heard → List ℕ → Opening L → Opening L → Type 0
 TakenIn heard.More piece old new = (new ≡ record old { came = old.came ++ piece }) × IsMore old.role old.way (old.came ++ piece)
 TakenIn heard.Whole piece old new =

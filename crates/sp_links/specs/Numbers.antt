@@ -1,4 +1,4 @@
--- A number that tells in which way a link began. Contracts alone know it; no code reckons it.
+-- A number that says in which way a link began. Only contracts know it; no code computes it.
 use Rattle.std.specs.Prelude.{◌++◌, ◌*◌, ℕ, zero, suc, List, [], ◌∷◌}
 use Rattle.sp_base.specs.declared.addr.Host.{Host}
 use Rattle.sp_base.specs.declared.addr.Host.TheVariants as hosts

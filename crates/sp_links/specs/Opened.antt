@@ -14,7 +14,7 @@ use Rattle.sp_links.specs.declared.way.Way.TheVariants as ways
 use Rattle.sp_links.specs.Openings.{openings}
 use Rattle.sp_links.specs.Numbers.{way_number}
 
--- the link began so: the peer's part came, and all that was owed for it was written first
+-- the link began in this way: the peer's part came, and all that was owed for it was written first
 abbrev pub IsBegun : Role → Way → LinkView → Type 0
 IsBegun role way link = HasOpened (openings role (λ w. ⊤)) way link
 
@@ -51,7 +51,7 @@ pub record IsSameWay (old new : OpenedView) : Type 0 where
   pub role : new.role ≡ old.role
   pub way : new.way ≡ old.way
 
--- the side of a WebSocket that was opened so
+-- the side of a WebSocket that was opened in this way
 abbrev pub side_of : Way → Option Side
 side_of ways.Greeting = None
 side_of (ways.Serves path) = Some sides.Server

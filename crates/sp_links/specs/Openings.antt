@@ -19,7 +19,7 @@ use Rattle.sp_links.specs.declared.judge.PeerPart.{PeerPart}
 use Rattle.sp_links.specs.declared.judge.PeerPart.TheVariants as parts
 use Rattle.sp_links.specs.Keys.{key_of}
 
--- the scheme of the links that begin so
+-- the scheme of the links that begin in this way
 abbrev pub scheme_for : Way → Scheme
 scheme_for ways.Greeting = schemes.Tcp
 scheme_for (ways.Serves path) = schemes.Ws
@@ -45,7 +45,7 @@ IsMore role ways.Greeting came = IsPrefix came (hello (peer_number role)) × (le
 IsMore role (ways.Serves path) came = IsShort came
 IsMore role (ways.Asks addr start) came = IsShort came
 
--- the first bytes that came are the peer's part, whole and right, and this is to be written for it
+-- the first `used` bytes that came are the peer's part, whole and right, and this is to be written for it
 abbrev pub OpensWith : Role → Way → ℕ → List ℕ → List ℕ → Type 0
 OpensWith role ways.Greeting used answer came = (used ≡ 8) × (answer ≡ []) × IsPrefix (hello (peer_number role)) came
 OpensWith role (ways.Serves path) used answer came = ServerAnswers (heads.Good used answer) came role path
@@ -57,7 +57,7 @@ IsGood role ways.Greeting came = IsPrefix (hello (peer_number role)) came
 IsGood role (ways.Serves path) came = (used : ℕ) × (answer : List ℕ) × ServerAnswers (heads.Good used answer) came role path
 IsGood role (ways.Asks addr start) came = (used : ℕ) × (answer : List ℕ) × ClientAnswers (heads.Good used answer) came (key_of start) role
 
--- it is wrong, whatever follows
+-- what came is wrong, whatever follows
 abbrev pub IsBad : Role → Way → List ℕ → Type 0
 IsBad role ways.Greeting came = IsBadGreeting (peer_number role) came
 IsBad role (ways.Serves path) came = (fault : HeadFault) × ServerAnswers (heads.Bad fault) came role path
@@ -75,7 +75,7 @@ Owes role ways.Greeting came owed = owed ≡ hello (role_number role)
 Owes role (ways.Serves path) came owed = (used : ℕ) × ServerAnswers (heads.Good used owed) came role path
 Owes role (ways.Asks addr start) came owed = IsRequestFor role (ways.Asks addr start) owed
 
--- the ways in which links of a run of this role begin: all, or some alone, as those of its addresses
+-- the ways in which links of a run of this role begin: all, or only some, such as those of its addresses
 abbrev pub openings : Role → (Way → Type 0) → Ways
 openings role IsKnown =
     record { Way = Way; IsOf = λ scheme way. (scheme ≡ scheme_for way) × IsKnown way; IsGood = λ way came. IsGood role way came; IsBad = λ way came. IsBad role way came; Owes = λ way came owed. Owes role way came owed }

@@ -18,19 +18,19 @@ abbrev pub IsAmong : {A : Type 0} → A → List A → Type 0
 IsAmong x [] = ⊥
 IsAmong x (y ∷ ys) = (y ≡ x) ⊎ IsAmong x ys
 
--- how a link begins that came to this address
+-- how a link begins that was accepted at this address
 abbrev pub serving : Addr → Way
 serving (addrs.Tcp host port) = ways.Greeting
 serving (addrs.Ws host port path) = ways.Serves path
 serving (addrs.Inproc name) = ways.Greeting
 
--- how a link begins that this address gave, where the key is made from this number
+-- how a link begins that was dialed to this address, where the key is made from this number
 abbrev pub asking : Addr → ℕ → Way
 asking (addrs.Tcp host port) start = ways.Greeting
 asking (addrs.Ws host port path) start = ways.Asks (addrs.Ws host port path) start
 asking (addrs.Inproc name) start = ways.Greeting
 
--- a link of the run may begin so
+-- a link of the run may begin in this way
 abbrev pub IsKnown : Origins → Way → Type 0
 IsKnown o ways.Greeting = ⊤
 IsKnown o (ways.Serves path) = (addr : Addr) × IsAmong addr o.listens × (serving addr ≡ ways.Serves path)

@@ -1,4 +1,4 @@
-//! What the bytes that came come to.
+//! Judging the bytes that came.
 ghost use Rattle.std.specs.Prelude.{◌≡◌, ◌↔◌, IsTrue};
 ghost use Rattle.sp_links.specs.Openings.{Judges, PartOf};
 ghost use Rattle.sp_links.specs.declared.way.Way.TheVariants as ways;
@@ -9,19 +9,19 @@ use sp_tcp::Greeting;
 use sp_upgrade::{Head, client_answer, server_head};
 use std::alloc::Global;
 
-/// What all bytes that came come to.
+/// The verdict on all bytes that came.
 pub enum PeerPart {
     /// The peer's part isn't whole yet.
     More,
     /// The peer's part is the first `used` bytes, and `answer` is to be written for it.
     Good { used: usize, answer: Bytes },
-    /// They are wrong, whatever follows.
+    /// The bytes are wrong, whatever follows.
     Bad,
     /// Out of memory.
     NoMemory,
 }
 
-/// What the bytes that came come to, on a link that begins in this way.
+/// The verdict on the bytes that came, on a link that begins in this way.
 pub(crate) fn judge(alloc: Global, role: Role, way: &Way, came: &[u8]) -> PeerPart
     ensures { Judges role way.now result came.now }
 {

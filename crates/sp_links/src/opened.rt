@@ -23,7 +23,7 @@ pub struct OpenedWire<L: Link> {
     way: Way,
 }
 
-/// Two ways with one number are one way, so a wire's name tells how its link began.
+/// Ways with the same number are the same, so a wire's name determines how its link began.
 pub fn name_ways()
     ensures { (v w : WayType) → way_number v ≡ way_number w → v ≡ w }
 {}
@@ -39,7 +39,7 @@ impl<L: Link> Model for OpenedWire<L> {
 }
 
 impl<L: Link> OpenedWire<L> {
-    /// The wire, over a link that began so.
+    /// The wire over a link that began in this way.
     pub fn new(wire: WsWire<L>, role: Role, way: Way) -> OpenedWire<L>
         requires begun { IsBegun role way wire.link }
         ensures { result ≡ opened_view wire role way }
@@ -47,7 +47,7 @@ impl<L: Link> OpenedWire<L> {
         OpenedWire { wire, role, way }
     }
 
-    /// Whether it may be pulled, asked for room and flushed.
+    /// Returns whether it may be pulled, asked for room and flushed.
     pub fn is_open(&self) -> bool
         ensures { result ≡ self.now.wire.is_open }
     {

@@ -1,4 +1,4 @@
-//! A link that is on its way.
+//! A link in its opening.
 ghost use Rattle.std.specs.Prelude.{◌≡◌, ◌≤◌, length, None, MatchResult};
 ghost use Rattle.sp_base.specs.Steps.{IsNew};
 ghost use Rattle.sp_links.specs.Openings.{CanBegin, Begins};
@@ -11,22 +11,22 @@ use std::alloc::Global;
 
 /// A link that carries no messages yet (nng_stream(5)).
 pub struct Opening<L: Link> {
-    /// Open.
+    /// The link, which is open.
     pub link: L,
-    /// The own role.
+    /// The role of this side.
     pub role: Role,
     pub way: Way,
-    /// All that is to be written so far, from the beginning on.
+    /// All that is to be written so far, from the beginning.
     pub own: Bytes,
-    /// How many bytes of it are written.
+    /// The number of bytes of it that are written.
     pub said: usize,
     /// All that came.
     pub came: Bytes,
-    /// How many bytes of it are the peer's part, once that is whole and right.
+    /// The length of the peer's part, once it is whole and right.
     pub used: Option<usize>,
 }
 
-/// How far it is.
+/// The progress of an opening.
 #[derive(Clone, Copy, Debug, PartialEq, Eq)]
 pub enum Progress {
     /// The link brings or takes nothing yet.
@@ -40,7 +40,7 @@ pub enum Progress {
     NoMemory,
 }
 
-/// What a piece of what came made of it.
+/// The result of taking a piece of what came.
 pub enum Heard {
     More,
     Whole,
@@ -56,7 +56,7 @@ fn empty_piece() -> [u8; 256]
 }
 
 impl<L: Link> Opening<L> {
-    /// A link that was handed out just now. Refused when out of memory alone; then the link comes back.
+    /// A link that was just handed out. Fails only when out of memory; then the link is returned.
     pub fn new(alloc: Global, link: L, role: Role, way: Way) -> Result<Opening<L>, (NoMemory, L)>
         requires fresh { IsNew (L.seen link).place (L.seen link) }
         requires can { CanBegin way }
@@ -108,7 +108,7 @@ impl<L: Link> Opening<L> {
         }
     }
 
-    // Goes on where all that is owed so far is written.
+    // Continues where all that is owed so far is written.
     fn go_on(&mut self, alloc: Global) -> Progress
         requires stands { Stands L.seen self.old }
         requires said { self.old.said ≡ length self.old.own }
@@ -121,7 +121,7 @@ impl<L: Link> Opening<L> {
         }
     }
 
-    // Hears the peer's part, and writes what is owed for it.
+    // Reads the peer's part, and writes what is owed for it.
     fn hear_and_answer(&mut self, alloc: Global) -> Progress
         requires hearing { IsHearing L.seen self.old }
         ensures opened { OpenedTo L.seen result self.old self.new }
@@ -175,7 +175,7 @@ impl<L: Link> Opening<L> {
         }
     }
 
-    // Takes a piece that came.
+    // Adds a piece that came.
     fn take_in(&mut self, alloc: Global, piece: &[u8]) -> Heard
         ensures { TakenIn result piece.now self.old self.new }
     {

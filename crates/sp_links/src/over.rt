@@ -1,4 +1,4 @@
-//! The wire of a link that is opened.
+//! The wire of a link whose opening is done.
 ghost use Rattle.std.specs.Prelude.{◌≡◌, true, MatchResult};
 ghost use Rattle.sp_tcp.specs.TcpWires.{Met};
 ghost use Rattle.sp_links.specs.Going.{IsOpened};
@@ -15,8 +15,8 @@ use sp_ws::{Side, WsWire};
 use std::alloc::Global;
 
 impl<L: Link> EndWire<L> {
-    /// The wire of an opened link, by its transport; the bytes that came behind the peer's part go to it. A body that
-    /// is read has at most `max` bytes. Refused when out of memory alone, and then the link comes back as it was.
+    /// The wire of an opened link, by its transport; it gets the bytes that came after the peer's part. A body that is
+    /// read has at most `max` bytes. Fails only when out of memory, and then the link is returned unchanged.
     pub fn over(alloc: Global, opening: Opening<L>, max: u32) -> Result<EndWire<L>, (NoMemory, L)>
         requires opened { IsOpened L.seen opening }
         ensures { MatchResult result (λ w. IsNewOver L.seen max opening w) (λ e. e.1 ≡ opening.link) }
@@ -39,7 +39,7 @@ impl<L: Link> EndWire<L> {
     }
 }
 
-// The side of a WebSocket that was opened so; none is of TCP.
+// The side of a WebSocket that was opened in this way; `None` for TCP.
 fn side_of(way: &Way) -> Option<Side>
     ensures { result ≡ side_of way.now }
 {

@@ -18,12 +18,12 @@ pub enum Way {
     Greeting,
     /// Over WebSocket, listening: a request for this path is answered.
     Serves { path: Bytes },
-    /// Over WebSocket, dialing: this address is asked, with a key that the generator gives from this number on.
+    /// Over WebSocket, dialing: this address is asked, with a key that the generator makes from `start`.
     Asks { addr: Addr, start: u64 },
 }
 
 impl Way {
-    /// How a link begins that came to this address. Refused only when out of memory.
+    /// How a link begins that was accepted at this address. Fails only when out of memory.
     pub fn serving(alloc: Global, addr: &Addr) -> Result<Way, NoMemory>
         ensures { IfOk result (λ way. way ≡ serving addr.now) }
     {
@@ -40,7 +40,8 @@ impl Way {
         }
     }
 
-    /// How a link begins that this address gave, where the key is made from `start`. Refused only when out of memory.
+    /// How a link begins that was dialed to this address, where the key is made from `start`. Fails only when out of
+    /// memory.
     pub fn asking(alloc: Global, addr: &Addr, start: u64) -> Result<Way, NoMemory>
         ensures { IfOk result (λ way. way ≡ asking addr.now start) }
     {
@@ -58,7 +59,7 @@ impl Way {
         }
     }
 
-    /// What came stays right or wrong, whatever follows, and is never both; and one text at most is owed for it.
+    /// What came stays right or wrong, whatever follows, and is never both; and at most one text is owed for it.
     pub fn has_laws()
         ensures good { (role : Role) (way : WayType) → StaysGood role way }
         ensures bad { (role : Role) (way : WayType) → StaysBad role way }
@@ -105,7 +106,7 @@ pub(crate) fn nothing(alloc: Global) -> Bytes
     Bytes::from_vec(Vec::new(alloc))
 }
 
-/// The same address. Refused only when out of memory.
+/// The same address. Fails only when out of memory.
 pub fn copy_of(alloc: Global, addr: &Addr) -> Result<Addr, NoMemory>
     ensures { IfOk result (λ copy. copy ≡ addr.now) }
 {

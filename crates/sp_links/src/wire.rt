@@ -22,7 +22,7 @@ pub enum EndWire<L: Link> {
 }
 
 impl<L: Link> EndWire<L> {
-    /// Whether it may be pulled, asked for room and flushed.
+    /// Returns whether it may be pulled, asked for room and flushed.
     pub fn is_open(&self) -> bool
         ensures { result ≡ (shown self.now).is_open }
     {

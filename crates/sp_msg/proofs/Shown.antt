@@ -1,4 +1,5 @@
--- What a wire shows after a call, by its marks: each wire owes only what became of its name, its bytes and what waits.
+-- What a wire shows after a call, by its marks: each wire has to prove only what became of its name, its bytes and what
+-- waits.
 use Rattle.std.proofs.Common.{◌≡◌, ◌≤◌, ◌+◌, ℕ, Bool, true, false, List, Option, refl}
 use Rattle.std.specs.Prelude.{◌||◌}
 use Rattle.sp_msg.specs.Views.{MessageView, WireName, WireView, wire_text}

@@ -18,7 +18,7 @@ abbrev pub with_text : Option (List (List ℕ)) → List ℕ → Option (List (L
 with_text None text = None
 with_text (Some texts) text = Some (texts ++ text ∷ [])
 
--- after every other result than a message or NotYet only `shut` is lawful
+-- after every result but a message and NotYet only `shut` is lawful
 abbrev pub AfterPull : WireIn → WireView → WireView → Type 0
 AfterPull (ins.Message m) old new = (m.header ≡ []) × (new ≡ record old { came = with_text old.came m.body })
 AfterPull ins.NotYet old new = new ≡ record old { idles = one_more old.idles }
@@ -28,7 +28,7 @@ AfterPull ins.Failed old new = new ≡ record old { is_open = false; faults = on
 AfterPull ins.Refused old new = new ≡ record old { is_open = false; refusals = one_more old.refusals }
 AfterPull ins.NoMemory old new = new ≡ record old { is_open = false }
 
--- room was found, or not; as much was written before as the link took
+-- room was found, or not; before that, as much was written as the link took
 abbrev pub RoomAs : Room → WireView → WireView → Type 0
 RoomAs rooms.Yes old new = new ≡ record old { waits = new.waits; is_ready = true }
 RoomAs rooms.Full old new = new ≡ record old { waits = new.waits; fulls = one_more old.fulls }

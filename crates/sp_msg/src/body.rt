@@ -11,13 +11,13 @@ use std::alloc::Global;
 use std::marker::Model;
 use std::sync::Arc;
 
-/// The most bytes that a body has. With a header it then has fewer than 2^63.
+/// The maximum length of a body, in bytes. With a header it has fewer than 2^63.
 const MAX_BODY: usize = isize::MAX as usize - HEADER_ROOM;
 
 /// A part of a block of bytes.
 #[derive(Debug, Drop)]
 pub(crate) struct Body {
-    /// Where memory is taken.
+    /// Where memory is allocated.
     alloc: Global,
     /// The block.
     block: Arc<Vec<u8>>,
@@ -38,7 +38,7 @@ impl Model for Body {
     ghost invariant = { λ b. (b.from ≤ b.to) × (b.to ≤ length (arc_value b.block).items) × (b.to - b.from + 64 < 2 ^ 63) };
 }
 
-// How many bytes two pieces have; a body of more than `MAX_BODY` is never had.
+// The number of bytes of two pieces; no body is longer than `MAX_BODY`.
 fn size_of_both(a: usize, b: usize) -> Result<usize, NoMemory>
     ensures { IfOk result (λ n. (n ≡ a + b) × (n + 64 < 2 ^ 63)) }
 {
@@ -49,7 +49,7 @@ fn size_of_both(a: usize, b: usize) -> Result<usize, NoMemory>
     Ok(size)
 }
 
-// Two pieces in a block of their own.
+// Joins two pieces in a block of their own.
 fn joined(alloc: Global, a: &[u8], b: &[u8]) -> Result<Body, NoMemory>
     ensures { IfOk result (λ body. body ≡ a.now ++ b.now) }
 {
@@ -66,8 +66,8 @@ fn joined(alloc: Global, a: &[u8], b: &[u8]) -> Result<Body, NoMemory>
     })
 }
 
-// Writes a piece behind the first `to` bytes of a block, where the block has one owner. After `NoMemory` these bytes
-// are as they were.
+// Writes `piece` after the first `to` bytes of a block, if the block has one owner. On `NoMemory` these bytes are
+// unchanged.
 fn extended(block: &mut Arc<Vec<u8>>, to: usize, piece: &[u8]) -> Result<bool, NoMemory>
     requires { to ≤ length (arc_value block.old).items }
     ensures ok { IfOk result (λ own. (IsTrue own → (arc_value block.new).items ≡ take to (arc_value block.old).items ++ piece.now)
@@ -84,7 +84,7 @@ fn extended(block: &mut Arc<Vec<u8>>, to: usize, piece: &[u8]) -> Result<bool, N
     }
 }
 
-// Writes a piece over the bytes of a block from a place on, where the block has one owner.
+// Overwrites the bytes of a block from `at` on with `piece`, if the block has one owner.
 fn overwritten(block: &mut Arc<Vec<u8>>, at: usize, piece: &[u8]) -> bool
     requires { at + length piece.now ≤ length (arc_value block.old).items }
     ensures own { IsTrue result → (arc_value block.new).items
@@ -101,7 +101,7 @@ fn overwritten(block: &mut Arc<Vec<u8>>, at: usize, piece: &[u8]) -> bool
 }
 
 impl Body {
-    /// These bytes, in a block of their own.
+    /// A body of these bytes, in a block of its own.
     pub(crate) fn from_slice(alloc: Global, bytes: &[u8]) -> Result<Body, NoMemory>
         ensures { IfOk result (λ body. body ≡ bytes.now) }
     {
@@ -128,7 +128,7 @@ impl Body {
         &self.block[self.from..self.to]
     }
 
-    /// How many bytes it has.
+    /// The number of bytes.
     pub(crate) fn len(&self) -> usize
         ensures value { result ≡ length self.now }
         ensures most { result + 64 < 2 ^ 63 }
@@ -136,7 +136,7 @@ impl Body {
         self.to - self.from
     }
 
-    /// Takes its first bytes away.
+    /// Removes the first `n` bytes.
     pub(crate) fn trim(&mut self, n: usize)
         requires { n ≤ length self.old }
         ensures { self.new ≡ drop n self.old }
@@ -144,7 +144,7 @@ impl Body {
         self.from += n;
     }
 
-    /// Takes its last bytes away.
+    /// Removes the last `n` bytes.
     pub(crate) fn chop(&mut self, n: usize)
         requires { n ≤ length self.old }
         ensures { self.new ≡ take (length self.old - n) self.old }
@@ -152,7 +152,7 @@ impl Body {
         self.to -= n;
     }
 
-    /// Puts bytes at its end, in its block where that has one owner; after `NoMemory` it is as it was.
+    /// Appends `piece`, in place if the block has one owner. On `NoMemory` the body is unchanged.
     pub(crate) fn append(&mut self, piece: &[u8]) -> Result<(), NoMemory>
         ensures ok { OnOk result (self.new ≡ self.old ++ piece.now) }
         ensures err { OnErr result (self.new ≡ self.old) }
@@ -167,7 +167,7 @@ impl Body {
         Ok(())
     }
 
-    // Puts bytes before it in its block, where that has the room and one owner.
+    // Puts `piece` before the body in its block, if that has the room and one owner.
     fn fits_before(&mut self, piece: &[u8]) -> bool
         requires { length self.old + length piece.now + 64 < 2 ^ 63 }
         ensures own { IsTrue result → self.new ≡ piece.now ++ self.old }
@@ -184,7 +184,8 @@ impl Body {
         true
     }
 
-    /// Puts bytes before it, in its block where that has the room and one owner; after `NoMemory` it is as it was.
+    /// Puts `piece` before the body, in place if the block has the room and one owner. On `NoMemory` the body is
+    /// unchanged.
     pub(crate) fn insert(&mut self, piece: &[u8]) -> Result<(), NoMemory>
         ensures ok { OnOk result (self.new ≡ piece.now ++ self.old) }
         ensures err { OnErr result (self.new ≡ self.old) }

@@ -13,7 +13,7 @@ pub(crate) const HEADER_ROOM: usize = 64;
 pub(crate) struct Header {
     /// The header, and the rest of its room.
     bytes: [u8; HEADER_ROOM],
-    /// How long the header is.
+    /// The length of the header.
     len: usize,
 }
 
@@ -36,7 +36,7 @@ pub(crate) fn number_at(s: &[u8]) -> u32
 }
 
 impl Header {
-    /// No byte.
+    /// An empty header.
     pub(crate) fn new() -> Header
         ensures { result ≡ [] }
     {
@@ -64,7 +64,7 @@ impl Header {
         &self.bytes[..self.len]
     }
 
-    /// How many bytes it has.
+    /// The number of bytes.
     pub(crate) fn len(&self) -> usize
         ensures value { result ≡ length self.now }
         ensures most { result ≤ 64 }
@@ -72,7 +72,7 @@ impl Header {
         self.len
     }
 
-    /// Puts a number at its end, big-endian; `HeaderFull` where it has more than 60 bytes, and then nothing changes.
+    /// Appends `w`, big-endian. Fails where the header has more than 60 bytes, and then nothing changes.
     pub(crate) fn append_u32(&mut self, w: u32) -> Result<(), HeaderFull>
         ensures { MatchResult result (λ _. (length self.old ≤ 60) × (self.new ≡ self.old ++ to_be_bytes w32 w))
             (λ _. (60 < length self.old) × (self.new ≡ self.old)) }
@@ -86,7 +86,7 @@ impl Header {
         Ok(())
     }
 
-    /// Takes its first 4 bytes away, and returns them as a number, big-endian; `Short` where it has fewer, and then
+    /// Removes the first 4 bytes, and returns them as a number, big-endian. Fails where there are fewer, and then
     /// nothing changes.
     pub(crate) fn trim_u32(&mut self) -> Result<u32, Short>
         ensures { MatchResult result (λ w. (take 4 self.old ≡ to_be_bytes w32 w) × (4 ≤ length self.old) × (self.new ≡ drop 4 self.old))
@@ -101,7 +101,7 @@ impl Header {
         Ok(number)
     }
 
-    /// Takes all its bytes away.
+    /// Removes all bytes.
     pub(crate) fn clear(&mut self)
         ensures { self.new ≡ [] }
     {

@@ -1,10 +1,10 @@
-//! What every wire keeps beside its bytes.
+//! What every wire keeps besides its bytes.
 ghost use Rattle.std.specs.Prelude.{◌≡◌, true, false};
 ghost use Rattle.sp_msg.specs.Marks.{fresh_marks, marks_pulled, marks_roomed, marks_flushed, marks_put, marks_shut};
 
 use crate::wire::{Room, WireFlush, WireIn};
 
-/// Which calls of a wire are lawful, how it ended, and its counts. A count stands still at its type's end.
+/// Which calls of a wire are lawful, how it ended, and its counts. Counts saturate.
 #[derive(Clone, Copy, Debug, PartialEq, Eq)]
 pub struct WireMarks {
     /// Room for one message was found and isn't used yet.
@@ -15,20 +15,20 @@ pub struct WireMarks {
     pub ended: bool,
     /// A pull returned that the next message is malformed.
     pub malformed: bool,
-    /// Returns `Failed`.
+    /// How often `Failed` was returned.
     pub faults: u64,
-    /// Returns `Full`.
+    /// How often `Full` was returned.
     pub fulls: u64,
-    /// Returns `NotYet` of a pull.
+    /// How often a pull returned `NotYet`.
     pub idles: u64,
-    /// Returns `NotYet` of a flush.
+    /// How often a flush returned `NotYet`.
     pub stalls: u64,
-    /// Returns `Refused`.
+    /// How often `Refused` was returned.
     pub refusals: u64,
 }
 
 impl WireMarks {
-    /// Of a new wire: open, without room, every count 0.
+    /// The marks of a new wire: open, without room, every count 0.
     pub fn new() -> WireMarks
         ensures { result ≡ fresh_marks }
     {
@@ -59,7 +59,7 @@ impl WireMarks {
         self.refusals = self.refusals.saturating_add(1);
     }
 
-    /// After a pull that returned this.
+    /// Records a pull that returned `returned`.
     pub fn pulled(&mut self, returned: &WireIn)
         ensures { self.new ≡ marks_pulled returned.now self.old }
     {
@@ -80,7 +80,7 @@ impl WireMarks {
         }
     }
 
-    /// After `room` returned this.
+    /// Records a call of `room` that returned `returned`.
     pub fn roomed(&mut self, returned: Room)
         ensures { self.new ≡ marks_roomed returned self.old }
     {
@@ -93,14 +93,14 @@ impl WireMarks {
         }
     }
 
-    /// After a message was put.
+    /// Records that a message was put.
     pub fn put(&mut self)
         ensures { self.new ≡ marks_put self.old }
     {
         self.is_ready = false;
     }
 
-    /// After a flush that returned this.
+    /// Records a flush that returned `returned`.
     pub fn flushed(&mut self, returned: WireFlush)
         ensures { self.new ≡ marks_flushed returned self.old }
     {
@@ -113,7 +113,7 @@ impl WireMarks {
         }
     }
 
-    /// After the wire was shut.
+    /// Records that the wire was shut.
     pub fn shut(&mut self)
         ensures { self.new ≡ marks_shut self.old }
     {

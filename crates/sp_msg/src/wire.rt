@@ -6,7 +6,7 @@ ghost use Rattle.sp_msg.specs.Wires.{AfterPull, AfterRoom, AfterPut, AfterFlush,
 use crate::message::Message;
 use std::sync::Wait;
 
-/// What a pull came to.
+/// The result of a pull.
 #[derive(Debug, Drop)]
 pub enum WireIn {
     /// The next message; all of it is body.
@@ -25,7 +25,7 @@ pub enum WireIn {
     NoMemory,
 }
 
-/// Whether there is room for one message more.
+/// The result of `room`: whether one more message may be put.
 #[derive(Clone, Copy, Debug, PartialEq, Eq)]
 pub enum Room {
     /// One message may be put.
@@ -40,7 +40,7 @@ pub enum Room {
     NoMemory,
 }
 
-/// Whether all that was put is written.
+/// The result of a flush: whether all that was put is written.
 #[derive(Clone, Copy, Debug, PartialEq, Eq)]
 pub enum WireFlush {
     /// Nothing waits.
@@ -68,8 +68,8 @@ pub trait Wire {
         requires { (shown self.old).is_open ≡ true }
         ensures { AfterPull result (shown self.old) (shown self.new) };
 
-    /// Says whether one message more can be put. Where as many messages wait as the wire holds it first writes what it
-    /// can of them, as `flush` does; else it leaves that to `flush`.
+    /// Returns whether one more message can be put. Where as many messages wait as the wire holds it first writes what
+    /// it can of them, as `flush` does; else it leaves that to `flush`.
     fn room<R: Wait>(&mut self, rt: &R) -> Room
         requires { (shown self.old).is_open ≡ true }
         ensures { AfterRoom result (shown self.old) (shown self.new) };
@@ -89,7 +89,7 @@ pub trait Wire {
     /// claimed of it.
     fn taken(&self) -> u64;
 
-    /// Ends the wire; one that has ended may be shut again.
+    /// Ends the wire. It may be called again.
     fn shut(&mut self)
         ensures { AfterShut (shown self.old) (shown self.new) };
 }

@@ -1,4 +1,4 @@
--- What never comes to a machine whose role, or whose contexts, don't have it.
+-- Entries that never come to a machine whose role, or whose contexts, don't have it.
 use Rattle.std.proofs.Common.{◌≡◌, subst, [], ◌∷◌, ℕ, Bool, true, false, arith}
 use Rattle.std.specs.Prelude.{◌==◌, ◌||◌, ◌&&◌, ◌≢◌}
 use Rattle.std.proofs.lemmas.Bool.Decides.{nat_tests}

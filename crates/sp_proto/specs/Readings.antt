@@ -1,4 +1,4 @@
--- All that a machine reads of a moment, and that an entry of which no protocol is told leaves it as it was.
+-- All that a machine reads of a moment. An entry that no protocol is told leaves it unchanged.
 use Rattle.std.specs.Prelude.{◌≡◌, ⊤, ℕ, Bool, false, List, [], ◌∷◌, ◌++◌, Option}
 use Rattle.std.proofs.Common.{refl, ap, sym, subst}
 use Rattle.std.proofs.Math.Path.{fun_ext}
@@ -22,7 +22,7 @@ use Rattle.sp_history.specs.Legal.{is_part_of_send}
 use Rattle.sp_history.specs.Moments.{Moment, past, also, IsSilent}
 use Rattle.sp_proto.specs.Kinds.{Kind, Starts, kind_of, setting_of, start}
 
--- the pipes that are up, in the order in which they were last put to use: came up, or got a message
+-- the pipes that are up, in the order in which they were last used: came up, or got a message
 abbrev pub in_turn : List Entry → List ℕ
 in_turn [] = []
 in_turn (Up p place name ∷ past) = in_turn past ++ p ∷ []
@@ -39,20 +39,20 @@ out_last (_ ∷ past) = out_last past
 -- what a machine may depend on
 pub record MomentReading : Type 0 where
   pub kind : Kind
-  -- the pipes that are up, in the order in which they came up, and in that in which they were last put to use; the number
-  -- of the last that came up, and that of the last Out; which were found full in this turn
+  -- the pipes that are up, in the order in which they came up, and in the order in which they were last used; the
+  -- number of the last one that came up, and of the last Out; those that were found full in this turn
   pub up : List ℕ
   pub in_turn : List ℕ
   pub ups : ℕ
   pub out_last : ℕ
   pub full : ℕ → Bool
-  -- the open contexts; of each what is kept for it, its topics, the request stored with it, and whether it is dry
+  -- the open contexts; for each, what is kept for it, its topics, the request stored with it, and whether it is dry
   pub ctxs : List ℕ
   pub pool : ℕ → List Item
   pub topics : ℕ → List (List ℕ)
   pub stored : ℕ → Option Origin
   pub dry : ℕ → Bool
-  -- the pending operations; of each the request that it answers, and the bytes of a send
+  -- the pending operations; for each, the request that it answers, and the bytes of a send
   pub pend : List Begun
   pub route : OpName → Option Origin
   pub bytes : Begun → Option (List ℕ)
@@ -80,7 +80,7 @@ reading t =
       now = now (past t);
     }
 
--- it leaves all of that, and is no part of a send
+-- it leaves all of that, and is not part of a send
 pub leaves : (t : Moment) (e : Entry) → IsSilent e → (reading t ≡ reading (also t e)) × (is_part_of_send t.z e ≡ false)
 leaves t (Met place) h = (refl, refl)
 leaves t (NoUp place miss) h = (refl, refl)
@@ -91,7 +91,7 @@ leaves t (Taken p) h = (refl, refl)
 leaves t (Took op by) h = (refl, refl)
 leaves t _ h = absurd h
 
--- so a machine that depends on the reading alone stands as before
+-- so a machine that depends only on the reading stands as before
 pub stays : {M : Type 0} (Stands : M → MomentReading → Type 0) (m : M) (t : Moment) (e : Entry) → IsSilent e → Stands m (reading t) → Stands m (reading (also t e))
 stays Stands m t e h k = subst (Stands m) (leaves t e h).0 k
 
@@ -101,7 +101,7 @@ abbrev IsNil : List Entry → Type 0
 IsNil [] = ⊤
 IsNil (e ∷ es) = ⊥
 
--- it is the one that a socket of this kind begins with
+-- it is the reading that a socket of this kind begins with
 pub reads_alike : (t : Moment) (slots callers caller : ℕ) → past t ≡ [] → reading t ≡ reading (start (setting_of (kind_of t.z) slots callers) caller)
 reads_alike t slots callers caller e = go t.turn t.before e
   where
@@ -117,7 +117,7 @@ reads_alike t slots callers caller e = go t.turn t.before e
     go [] (e ∷ before) h = absurd (subst IsNil (sym h) tt)
     go (e ∷ turn) before h = absurd (subst IsNil (sym h) tt)
 
--- so a machine that depends on the reading alone stands for the empty past of every socket of its kind
+-- so a machine that depends only on the reading stands for the empty past of every socket of its kind
 pub starts : {M : Type 0} (Stands : M → MomentReading → Type 0) (m : M) (t : Moment) (k : Kind) → kind_of t.z ≡ k → past t ≡ [] → Stands m (reading t) → Starts (λ (n : M) (u : Moment). Stands n (reading u)) m k
 starts Stands m t k h e s slots callers caller =
     subst (λ (j : Kind). Stands m (reading (start (setting_of j slots callers) caller))) h (subst (Stands m) (reads_alike t slots callers caller e) s)

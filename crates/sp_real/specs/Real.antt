@@ -20,10 +20,10 @@ pace_view left latest over = record { left = left; latest = latest; is_over = ov
 abbrev pub real_net_view : ListenerSchemes → ℕ → List (ℕ × LinkView) → ℕ → ℕ → NetView
 real_net_view schemes opened back faults idles = record { listens = listens_of schemes; opened = opened; back = from_entries back; faults = faults; idles = idles }
 
--- nothing was asked of it
+-- a net before any call
 abbrev pub unasked_net : NetView
 unasked_net = record { listens = empty; opened = 0; back = empty; faults = 0; idles = 0 }
 
--- a pace took no turn, and its time went on
+-- a pace took no turn, and its time passed
 abbrev pub RestsOnly : PaceView → PaceView → Type 0
 RestsOnly old new = (new.left ≡ old.left) × (old.latest ≤ new.latest) × (new.is_over ≡ old.is_over)

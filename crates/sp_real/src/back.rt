@@ -1,5 +1,5 @@
-//! The links that a net got back, as contracts see them. They take no memory, and nothing is done with them when a
-//! program runs.
+//! The links that a net got back, as contracts see them. They take no memory, and the compiled program does nothing
+//! with them.
 ghost use Rattle.std.specs.Prelude.{◌≡◌, ◌∷◌, ℕ, List, []};
 ghost use Rattle.std.specs.Borrow.{ftrue};
 ghost use Rattle.sp_base.specs.Views.{LinkView};
@@ -26,7 +26,7 @@ impl ReturnedLinks {
         ReturnedLinks {}
     }
 
-    /// One more came back.
+    /// One more link came back.
     pub(crate) fn with(&self, _counts: &Counts) -> ReturnedLinks
         ensures { result.entries ≡ (_counts.now.place, counts_view _counts.now) ∷ self.now.entries }
     {

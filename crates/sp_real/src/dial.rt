@@ -1,4 +1,4 @@
-//! Connections that were begun and aren't made yet.
+//! Connections that were begun and aren't established yet.
 use crate::link::waits;
 use crate::wake::{Mark, Wakes};
 use mio::net::TcpStream;
@@ -8,17 +8,17 @@ use std::io;
 use std::io::ErrorKind;
 use std::net::{Net, SocketAddr};
 
-/// After how many milliseconds a connection that isn't made is given up: packets to its peer may be dropped, and a
-/// new one is sent at once.
+/// How many milliseconds a connection may take. Packets to its peer may be dropped; then it is given up, and a new one
+/// is begun at once.
 const LIMIT: u64 = 5_000;
 
-/// What a dial came to.
+/// The result of a dial.
 pub(crate) enum Dialed {
-    /// The connection is made.
+    /// The connection is established.
     Made(TcpStream, Mark),
     /// It is under way.
     Begun,
-    /// Nobody is there.
+    /// The address has no listener.
     Refused,
     Failed(io::Error),
 }
@@ -27,19 +27,19 @@ pub(crate) enum Dialed {
 #[derive(Drop)]
 struct Dialing {
     stream: TcpStream,
-    // Set where the machine reported it since it was looked at.
+    // Set when the machine reported the connection since it was last checked.
     mark: Mark,
     // The pace's tick when it was begun.
     begun: u64,
 }
 
-/// The connections under way, by the addresses that they go to.
+/// The connections under way, by their addresses.
 #[derive(Drop)]
 pub(crate) struct Dials {
     under_way: BTreeMap<SocketAddr, Dialing>,
 }
 
-// Nobody is there yet.
+// Returns whether there is no listener yet.
 fn is_refused(e: &io::Error) -> bool {
     matches!(
         e.kind(),
@@ -55,7 +55,7 @@ fn not_made(e: io::Error) -> Dialed {
     }
 }
 
-// Whether a connection is made. A socket that was connected to itself counts as refused.
+// Returns whether a connection is established. A socket that is connected to itself counts as refused.
 fn is_made(stream: &TcpStream) -> io::Result<bool> {
     if let Some(e) = stream.take_error()? {
         return Err(e);
@@ -79,7 +79,7 @@ fn is_made(stream: &TcpStream) -> io::Result<bool> {
 }
 
 impl Dialing {
-    // Begins a connection whose socket ends rests.
+    // Begins a connection whose socket ends rests of the pace.
     fn begin<R: Net>(rt: &R, wakes: &Wakes, to: SocketAddr) -> io::Result<Dialing> {
         let mut stream = TcpStream::connect(rt, to)?;
         let mark = wakes.mark(&mut stream);
@@ -96,15 +96,15 @@ impl Dialing {
 }
 
 impl Dials {
-    /// None is under way.
+    /// No connection is under way.
     pub(crate) fn new(alloc: Global) -> Dials {
         Dials {
             under_way: BTreeMap::new(alloc),
         }
     }
 
-    /// Asks for the connection to an address, which is begun where none is under way. Where nothing was reported of it,
-    /// this makes no call of the machine.
+    /// Asks for the connection to an address, and begins one if none is under way. Where nothing was reported for it,
+    /// this makes no system call.
     pub(crate) fn ask<R: Net>(&mut self, rt: &R, wakes: &Wakes, to: SocketAddr) -> Dialed {
         if self.is_quiet(wakes.tick(), to) {
             return Dialed::Begun;
@@ -122,7 +122,7 @@ impl Dials {
         self.look(wakes, to, dialing)
     }
 
-    // Whether nothing was reported of the connection to an address, and it isn't given up yet.
+    // Returns whether nothing was reported for the connection to an address, and it isn't given up yet.
     fn is_quiet(&self, tick: u64, to: SocketAddr) -> bool {
         match self.under_way.get(&to) {
             Some(dialing) => !dialing.mark.is_set() && !dialing.is_old(tick, LIMIT),
@@ -130,7 +130,7 @@ impl Dials {
         }
     }
 
-    // What the machine says of a connection.
+    // Checks the state of a connection with the machine.
     fn look(&mut self, wakes: &Wakes, to: SocketAddr, dialing: Dialing) -> Dialed {
         let _ = dialing.mark.take();
         match is_made(&dialing.stream) {
@@ -143,7 +143,7 @@ impl Dials {
         }
     }
 
-    // Keeps a connection for the next dial, where it isn't too old, and there is memory for it.
+    // Keeps a connection for the next dial, if it isn't too old, and there is memory for it.
     fn keep(&mut self, wakes: &Wakes, to: SocketAddr, dialing: Dialing) -> Dialed {
         if dialing.is_old(wakes.tick(), LIMIT) {
             let _ = wakes.unmark(dialing.mark);
@@ -155,7 +155,7 @@ impl Dials {
         }
     }
 
-    // Gives up a connection for which nobody asked in a long time, if there is one.
+    // Gives up a connection that was not asked for in a long time, if there is one.
     fn forget_one(&mut self, wakes: &Wakes) {
         let Some(to) = self.forgotten(wakes.tick()) else {
             return;

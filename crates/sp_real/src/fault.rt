@@ -3,14 +3,14 @@ use sp_base::{Host, Scheme};
 use std::io::ErrorKind;
 use std::{fmt, io};
 
-/// Why a call of the machine failed. Its text is short, as `address in use`.
+/// Why a call of the machine failed. Its text is short, such as `address in use`.
 #[derive(Clone, Copy, Debug)]
 pub struct Reason {
     error: io::Error,
 }
 
 impl Reason {
-    /// The reason that an error of the machine gives.
+    /// The reason for an error of the machine.
     pub fn of(error: io::Error) -> Reason {
         Reason { error }
     }
@@ -27,8 +27,8 @@ impl fmt::Display for Reason {
     }
 }
 
-/// Where a listen, an accept or a dial failed, and why. Its text is as `tcp://127.0.0.1:80: permission denied`; a path
-/// is left out.
+/// Where a listen, an accept or a dial failed, and why. Its text is like `tcp://127.0.0.1:80: permission denied`; a
+/// path is left out.
 #[derive(Clone, Copy, Debug)]
 pub struct NetFault {
     place: Place,

@@ -9,14 +9,14 @@ use std::rt::Clock;
 use std::time::Duration;
 use std::{fs, io, thread};
 
-/// How many milliseconds pass between two tries while standard input has nothing yet.
+/// The milliseconds between two tries while standard input has nothing yet.
 const REST: u64 = 1;
 
-/// How many bytes a read of standard input asks for.
+/// The number of bytes that a read of standard input asks for.
 const PIECE: usize = 65_536;
 
-/// Files by their names; the name `-` is standard input, which gives all that comes until its end. Where it has
-/// nothing yet, and doesn't wait itself, the call waits.
+/// Files by their names; the name `-` is standard input, which gives all that comes until its end. If it is
+/// non-blocking and has nothing yet, the call waits.
 #[derive(Drop)]
 pub struct RealFiles<R: std::rt::Files + Input + Clock + AllocGlobal + Drop> {
     rt: R,
@@ -36,7 +36,7 @@ impl<R: std::rt::Files + Input + Clock + AllocGlobal + Drop> RealFiles<R> {
         }
     }
 
-    /// Why the last file failed that did.
+    /// Why the last file that failed did.
     pub fn last_fault(&self) -> Option<Reason> {
         self.last_fault
     }
@@ -47,7 +47,7 @@ fn piece(alloc: Global) -> io::Result<Vec<u8>> {
     Ok(vec![in alloc; 0u8; PIECE]?)
 }
 
-// Reads on; false at the end.
+// Reads the next piece. Returns false at the end.
 fn read_on<R: Clock, I: Read>(
     rt: &R,
     input: &mut I,

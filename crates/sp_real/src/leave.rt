@@ -1,5 +1,5 @@
-//! Links that were given back: their peers may not have all yet, and what closes a link whose peer sends something
-//! throws away what the peer hasn't taken.
+//! Links that were given back. Their peers may not have received everything yet, and closing a link whose peer still
+//! sends discards what the peer hasn't taken.
 use crate::link::Counts;
 use crate::pace::RealPace;
 use crate::wake::{Mark, Wakes};
@@ -10,7 +10,7 @@ use std::io::{ErrorKind, Read};
 use std::net::Shutdown;
 use std::rt::Clock;
 
-/// For how many milliseconds at most `finish` waits.
+/// How many milliseconds `finish` waits at most.
 const LINGER: u64 = 2_000;
 
 /// How often in a row a link is read before others have their turn.
@@ -27,11 +27,11 @@ struct Leaving {
 #[derive(Drop)]
 pub(crate) struct Leavers {
     links: VecDeque<Leaving>,
-    // How many links aren't back yet.
+    // How many links are handed out and not back yet.
     out: usize,
 }
 
-// How far a link has come.
+// The state of a link that was given back.
 #[derive(Clone, Copy, PartialEq, Eq)]
 enum Left {
     /// The peer hasn't shut its half.
@@ -73,7 +73,7 @@ impl Leaving {
         let _ = wakes.unmark(mark);
     }
 
-    // Where it was reported, drops what comes.
+    // Drops what comes, if the link was reported.
     fn turn(&mut self) -> Left {
         if self.mark.take() {
             self.drop_what_comes()
@@ -84,7 +84,7 @@ impl Leaving {
 }
 
 impl Leavers {
-    /// None is out and none is back.
+    /// No link is handed out and none is back.
     pub(crate) fn new(alloc: Global) -> Leavers {
         Leavers {
             links: VecDeque::new(alloc),
@@ -92,13 +92,13 @@ impl Leavers {
         }
     }
 
-    /// A link is handed out. Where there is no memory, one link more is closed as soon as it is back.
+    /// Records that a link is handed out. Where there is no memory, one more link is closed as soon as it is back.
     pub(crate) fn hand_out(&mut self) {
         self.out = self.out.saturating_add(1);
         let _ = self.links.reserve(self.out);
     }
 
-    /// A link is back. One that failed, or whose peer had ended, is closed at once. Takes no memory.
+    /// Takes a link back. One that failed, or whose peer had ended, is closed at once. Takes no memory.
     pub(crate) fn take_back(
         &mut self,
         wakes: &Wakes,
@@ -116,7 +116,7 @@ impl Leavers {
         }
     }
 
-    /// Closes them, and says how many there were.
+    /// Closes them, and returns how many there were.
     pub(crate) fn close(&mut self, wakes: &Wakes) -> u32 {
         let mut closed = 0u32;
         for _ in 0..self.links.len() {
@@ -129,7 +129,7 @@ impl Leavers {
     }
 
     /// Drops what comes on them until each peer has shut its half too, for at most two seconds, and closes them.
-    /// How many were not whole.
+    /// Returns how many were not whole.
     pub(crate) fn finish<C: Clock + Drop>(&mut self, wakes: &Wakes, pace: &mut RealPace<C>) -> u32 {
         let mut lost = 0u32;
         let _ = pace.rest(0);
@@ -144,7 +144,7 @@ impl Leavers {
         lost.saturating_add(self.close(wakes))
     }
 
-    // A turn of each. How many were lost.
+    // Takes a turn of each. Returns how many were lost.
     fn turn(&mut self, wakes: &Wakes) -> u32 {
         let mut lost = 0u32;
         for _ in 0..self.links.len() {
@@ -157,7 +157,7 @@ impl Leavers {
         lost
     }
 
-    // A turn of one that was taken out of the list. It goes back where its peer hasn't shut its half.
+    // Takes a turn of one that was taken out of the list. It goes back if its peer hasn't shut its half.
     fn turn_one(&mut self, wakes: &Wakes, leaving: Leaving) -> Left {
         let mut leaving = leaving;
         let left = leaving.turn();
@@ -169,7 +169,7 @@ impl Leavers {
         left
     }
 
-    // Puts one into the list, where there is room.
+    // Puts one into the list, if there is room.
     fn keep(&mut self, wakes: &Wakes, leaving: Leaving) {
         if self.links.len() < self.links.capacity() {
             self.links.push_back_reserved(leaving);

@@ -12,7 +12,7 @@ use std::io;
 use std::io::{ErrorKind, Read, Write};
 use std::net::Shutdown;
 
-/// What a link shows but its content.
+/// What a link shows, except its content.
 #[derive(Clone, Copy, Debug, PartialEq, Eq)]
 pub struct Counts {
     pub(crate) place: u32,
@@ -24,20 +24,20 @@ pub struct Counts {
     pub(crate) ended: bool,
 }
 
-/// A link that gave this many bytes since it last had none says once that none is there: a peer that sends without
-/// pause holds nobody who reads until nothing is there.
+/// A link that gave this many bytes since it last had nothing returns once that nothing is there. So a peer that sends
+/// without pause can't hold up a reader that reads until nothing is there.
 pub const TURN_BYTES: usize = 262_144;
 
-/// A connection that doesn't wait (nng_stream(5)). Each `TURN_BYTES` bytes it says once that nothing is there.
+/// A connection that doesn't wait (nng_stream(5)). After each `TURN_BYTES` bytes it returns once that nothing is there.
 pub struct TcpLink {
     stream: TcpStream,
     mark: Mark,
     pub(crate) counts: Counts,
-    // How many bytes came since a read found nothing.
+    // The number of bytes that came since a read found nothing.
     since: usize,
 }
 
-// Nothing is there yet.
+// Returns whether nothing is there yet.
 pub(crate) fn waits(e: &io::Error) -> bool
     ensures { IsTrue result ↔ ((error_kind e.now ≡ kinds.WouldBlock) ⊎ (error_kind e.now ≡ kinds.Interrupted)) }
 {
@@ -70,7 +70,7 @@ impl TcpLink {
         }
     }
 
-    /// What it is made of.
+    /// Its parts.
     pub(crate) fn into_parts(self) -> (TcpStream, Mark, Counts)
         ensures { result.2 ≡ self.counts }
     {
@@ -83,12 +83,12 @@ impl TcpLink {
         (stream, mark, counts)
     }
 
-    /// Whether small messages go at once (tcp(7), TCP_NODELAY).
+    /// Returns whether small messages are sent at once (tcp(7), TCP_NODELAY).
     pub fn nodelay(&self) -> io::Result<bool> {
         self.stream.nodelay()
     }
 
-    // Whether a read is to ask the machine.
+    // Returns whether a read has to ask the machine.
     fn may_read(&mut self) -> bool
         ensures { self.new.counts ≡ self.old.counts }
     {
@@ -104,7 +104,7 @@ impl TcpLink {
         false
     }
 
-    // So many bytes came.
+    // Records that `n` bytes came.
     fn got(&mut self, n: usize)
         ensures { self.new.counts ≡ self.old.counts }
     {
@@ -112,7 +112,7 @@ impl TcpLink {
         self.since = self.since.saturating_add(n);
     }
 
-    // The machine gave none. Behind a signal there may be some all the same.
+    // Records that the machine gave no bytes. After a signal there may still be some.
     fn got_none(&mut self, e: &io::Error)
         ensures { self.new.counts ≡ self.old.counts }
     {

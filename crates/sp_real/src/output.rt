@@ -8,7 +8,7 @@ use std::rt::Clock;
 use std::time::Duration;
 use std::{io, thread};
 
-/// How many milliseconds pass between two tries while the output takes nothing.
+/// The milliseconds between two tries while the output takes nothing.
 const REST: u64 = 1;
 
 /// Standard output. Each piece is written out before the call returns; where the output takes nothing yet, the call
@@ -32,7 +32,7 @@ impl<R: Print + Clock + Drop> RealOut<R> {
         }
     }
 
-    /// Why the last piece failed that did.
+    /// Why the last piece that failed did.
     pub fn last_fault(&self) -> Option<Reason> {
         self.last_fault
     }

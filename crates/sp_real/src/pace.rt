@@ -10,21 +10,22 @@ use std::rt::Clock;
 use std::time::{Duration, Instant};
 use std::{io, thread};
 
-/// How many sockets that are ready one rest takes note of.
+/// The maximum number of ready sockets that one rest records.
 const READY: usize = 64;
 
-/// How many milliseconds a pace rests at most while a socket was ready not long ago.
+/// The maximum rest, in milliseconds, while a socket was ready not long ago.
 const REST: u64 = 1;
 
-/// How many rests in a row that no socket ended make a pace idle.
+/// After this many rests in a row that no socket ended, a pace is idle.
 const QUIET_RESTS: u32 = 100;
 
-/// How many milliseconds an idle pace rests at most.
+/// The maximum rest of an idle pace, in milliseconds.
 const IDLE_REST: u64 = 10;
 
 /// A pace that rests where nothing moved, for a millisecond or until a socket of its registry is ready, with 2^64 - 1
-/// turns. It doesn't rest where a link said that nothing is there and may have more (`TURN_BYTES`). After a hundred rests
-/// in a row that no socket ended it rests for up to ten milliseconds. Its ticks are milliseconds since it was made.
+/// turns. It doesn't rest if a link returned that nothing is there but may have more (`TURN_BYTES`). After a hundred
+/// rests in a row that no socket ended it rests for up to ten milliseconds. Its ticks are milliseconds since it was
+/// made.
 #[derive(Drop)]
 pub struct RealPace<R: Clock + Drop> {
     rt: R,
@@ -35,12 +36,12 @@ pub struct RealPace<R: Clock + Drop> {
     left: u64,
     latest: u64,
     over: bool,
-    // How many rests in a row no socket has ended.
+    // The number of rests in a row that no socket has ended.
     quiet: u32,
 }
 
 impl<R: Clock + Drop> RealPace<R> {
-    /// A pace whose ticks count from now on. Fails where the clock or the machine's readiness does, or out of memory.
+    /// A pace whose ticks count from now. Fails where the clock or the machine's readiness does, or when out of memory.
     pub fn new<N: std::net::Net>(rt: R, net: &N, alloc: Global) -> io::Result<RealPace<R>>
         ensures { IfOk result (λ p. (p.left ≡ 2 ^ 64 - 1) × (p.over ≡ false)) }
     {
@@ -61,13 +62,13 @@ impl<R: Clock + Drop> RealPace<R> {
         })
     }
 
-    /// Where the sockets are made known that end a rest.
+    /// The registry for the sockets that end a rest.
     pub fn registry(&self) -> io::Result<Wakes> {
         self.wakes.share()
     }
 
-    /// Rests for at most this many milliseconds, or until a socket is ready or a link has more than it gave, without a
-    /// turn. Returns whether one was; fails where the clock does.
+    /// Rests for at most `most` milliseconds, or until a socket is ready or a link has more than it gave, without a
+    /// turn. Returns whether one was ready or had more. Fails where the clock does.
     pub fn rest(&mut self, most: u64) -> io::Result<bool>
         ensures { RestsOnly (pace_view self.old.left self.old.latest self.old.over) (pace_view self.new.left self.new.latest self.new.over) }
     {
@@ -99,7 +100,7 @@ impl<R: Clock + Drop> RealPace<R> {
         }
     }
 
-    // The last tick is now.
+    // Sets the last tick to now.
     fn read_clock(&mut self) -> io::Result<()>
         ensures { RestsOnly (pace_view self.old.left self.old.latest self.old.over) (pace_view self.new.left self.new.latest self.new.over) }
     {
@@ -111,7 +112,7 @@ impl<R: Clock + Drop> RealPace<R> {
     }
 }
 
-// For how long a pace rests at most.
+// The maximum rest, in milliseconds.
 fn longest_rest(moved: bool, quiet: u32) -> u64 {
     if moved {
         0

@@ -25,16 +25,16 @@ use std::io::ErrorKind;
 use std::net::{IpAddr, Ipv4Addr, SocketAddr};
 use std::rt::Clock;
 
-/// A listener, and where it listens.
+/// A listener, and its place.
 #[derive(Drop)]
 struct Listener {
     socket: TcpListener,
     place: Place,
 }
 
-/// TCP (nng_tcp(7)). Listeners, links and dials don't wait. A dial that isn't made yet is kept by its address until it is
-/// asked for again, and given up after five seconds of the pace. A link that was given back is closed at the next
-/// listen, accept or dial, or by `finish`.
+/// TCP (nng_tcp(7)). Listeners, links and dials don't wait. A connection that isn't established yet is kept by its
+/// address until it is asked for again, and given up after five seconds of the pace. A link that was given back is
+/// closed at the next listen, accept or dial, or by `finish`.
 #[derive(Drop)]
 pub struct TcpNet<R: std::net::Net + Drop> {
     rt: R,
@@ -51,7 +51,7 @@ pub struct TcpNet<R: std::net::Net + Drop> {
 }
 
 impl<R: std::net::Net + Drop> TcpNet<R> {
-    /// A net that listens nowhere and has handed out no link. Its sockets end the rests of the pace whose registry
+    /// A net that has no listeners and has handed out no link. Its sockets end the rests of the pace whose registry
     /// this is.
     pub fn new(rt: R, wakes: Wakes, alloc: Global) -> TcpNet<R>
         ensures { real_net_view result.schemes result.opened result.back.entries result.faults result.idles ≡ unasked_net }
@@ -71,14 +71,14 @@ impl<R: std::net::Net + Drop> TcpNet<R> {
         }
     }
 
-    /// The last listen, accept or dial that failed, where the machine said why.
+    /// The last listen, accept or dial that failed, if the machine gave a reason.
     pub fn last_fault(&self) -> Option<NetFault> {
         self.last_fault
     }
 
     /// Reads and drops what comes on the links that were given back, all at once, until each peer has ended its stream
-    /// too, for at most 2,000 ms; then closes them. So a peer that takes long gets all that was written on its link. It
-    /// returns how many links were reset, or had a peer that did not end. The pace is the one of the net's registry.
+    /// too, for at most 2,000 ms; then closes them. So a peer that takes long gets all that was written on its link.
+    /// Returns how many links were reset, or had a peer that did not end. The pace is the one of the net's registry.
     pub fn finish<C: Clock + Drop>(&mut self, pace: &mut RealPace<C>) -> u32
         ensures { real_net_view self.new.schemes self.new.opened self.new.back.entries self.new.faults self.new.idles ≡ real_net_view self.old.schemes self.old.opened self.old.back.entries self.old.faults self.old.idles }
     {
@@ -92,7 +92,7 @@ impl<R: std::net::Net + Drop> TcpNet<R> {
         let _ = self.leavers.close(&self.wakes);
     }
 
-    // Where a listener listens.
+    // The place of a listener.
     fn place(&self, at: u32) -> Place
         requires { IsSome (map.get (listens_of self.now.schemes) at) }
         ensures { Some result.scheme ≡ map.get (listens_of self.now.schemes) at }
@@ -105,7 +105,7 @@ impl<R: std::net::Net + Drop> TcpNet<R> {
         Place { scheme, host, port }
     }
 
-    // A link of this connection, where a place is left for one.
+    // Makes a link of this connection, if a place is left for one.
     fn hand_out(&mut self, stream: TcpStream, mark: Mark, place: Place) -> Linked<TcpLink>
         ensures not_begun { result ≢ linked.Begun }
         ensures shows { AfterLinking link_view result (Some place.scheme) (real_net_view self.old.schemes self.old.opened self.old.back.entries self.old.faults self.old.idles) (real_net_view self.new.schemes self.new.opened self.new.back.entries self.new.faults self.new.idles) }
@@ -120,7 +120,7 @@ impl<R: std::net::Net + Drop> TcpNet<R> {
         self.fail(place, io::Error::other("no number is left for a link"))
     }
 
-    // An accept or a dial failed.
+    // Records that an accept or a dial failed.
     fn fail(&mut self, place: Place, error: io::Error) -> Linked<TcpLink>
         ensures failed { result ≡ linked.Failed }
         ensures shows { AfterLinking link_view result (Some place.scheme) (real_net_view self.old.schemes self.old.opened self.old.back.entries self.old.faults self.old.idles) (real_net_view self.new.schemes self.new.opened self.new.back.entries self.new.faults self.new.idles) }
@@ -131,7 +131,7 @@ impl<R: std::net::Net + Drop> TcpNet<R> {
     }
 }
 
-// Where an address listens or dials.
+// The place of an address.
 fn place_of(addr: &Addr) -> Place
     ensures { result.scheme ≡ scheme_of addr.now }
 {
@@ -151,7 +151,7 @@ fn place_of(addr: &Addr) -> Place
     }
 }
 
-// A place within the process has none.
+// The socket address of a place. A place within the process has none.
 fn socket_addr(place: Place) -> io::Result<SocketAddr> {
     if place.scheme == Scheme::Inproc {
         return Err(io::Error::from(ErrorKind::Unsupported));
@@ -163,7 +163,7 @@ fn socket_addr(place: Place) -> io::Result<SocketAddr> {
     Ok(SocketAddr::new(IpAddr::V4(ip), place.port))
 }
 
-// A listener that ends rests.
+// A listener whose socket ends rests.
 fn bind<R: std::net::Net>(rt: &R, wakes: &Wakes, place: Place) -> io::Result<Listener> {
     let mut socket = TcpListener::bind(rt, socket_addr(place)?)?;
     let _ = wakes
@@ -172,8 +172,8 @@ fn bind<R: std::net::Net>(rt: &R, wakes: &Wakes, place: Place) -> io::Result<Lis
     Ok(Listener { socket, place })
 }
 
-// What a listener has. The new socket is ready to write, which ends the next rest: so connections behind this one are
-// asked for though the machine doesn't report them.
+// Takes a connection of a listener. The new socket is ready to write, which ends the next rest. So the connections
+// after this one are asked for though the machine doesn't report them.
 fn take_one(wakes: &Wakes, listeners: &[Listener], at: u32) -> io::Result<(TcpStream, Mark)> {
     let Some(listener) = listeners.get(at as usize) else {
         return Err(io::Error::from(ErrorKind::NotFound));
@@ -183,7 +183,7 @@ fn take_one(wakes: &Wakes, listeners: &[Listener], at: u32) -> io::Result<(TcpSt
     Ok((stream, mark))
 }
 
-// Nobody is there yet, or whoever came is gone again.
+// Returns whether there is no connection yet, or one that came is gone again.
 fn nobody_came(e: &io::Error) -> bool
     ensures { IsTrue result ↔ ((error_kind e.now ≡ kinds.WouldBlock) ⊎ (error_kind e.now ≡ kinds.Interrupted) ⊎ (error_kind e.now ≡ kinds.ConnectionAborted)) }
 {

@@ -1,5 +1,5 @@
-//! Which links are to be read: those whose socket was reported ready since a read of it found nothing. Here is also
-//! what else net and pace share.
+//! The links that are to be read: those whose socket was reported ready since a read of it found nothing. Also what
+//! else net and pace share.
 use mio::event::Source;
 use mio::{Events, Interest, Registry, Token};
 use std::alloc::Global;
@@ -9,7 +9,7 @@ use std::rc::Rc;
 use std::sync::Arc;
 use std::sync::atomic::{AtomicBool, AtomicU64, Ordering};
 
-/// The token of sockets that have no mark: listeners, and those for whose mark there was no memory.
+/// The token of sockets without a mark: listeners, and those for whose mark there was no memory.
 pub(crate) const ANY: Token = Token(usize::MAX);
 
 /// The marks by the tokens of their sockets. A link has its own mark, and a link may be in any thread.
@@ -20,7 +20,7 @@ struct ReadyMarks {
     free: Vec<usize>,
 }
 
-/// What links and pace tell one another.
+/// What links and pace share.
 #[derive(Drop)]
 struct Notes {
     // Whether a link may have more than it gave, and the machine will not report it again.
@@ -29,7 +29,7 @@ struct Notes {
     tick: AtomicU64,
 }
 
-/// Where the sockets are made known that end a rest, and the marks that a rest leaves.
+/// The registry for the sockets that end a rest, and the marks that a rest sets.
 #[derive(Drop)]
 pub struct Wakes {
     pub(crate) registry: Registry,
@@ -53,7 +53,7 @@ struct MarkPlace {
 }
 
 impl ReadyMarks {
-    // A token that no socket has. Its mark says ready.
+    // Takes a token that no socket has. Its mark is set to ready.
     fn draw(&mut self, alloc: Global) -> Option<MarkPlace> {
         let token = match self.free.pop() {
             Some(token) => token,
@@ -64,7 +64,7 @@ impl ReadyMarks {
         Some(MarkPlace { token, ready })
     }
 
-    // One token more.
+    // One more token.
     fn grow(&mut self, alloc: Global) -> Option<usize> {
         let token = self.ready.len();
         self.free.reserve(token.saturating_add(1)).ok()?;
@@ -87,7 +87,7 @@ impl ReadyMarks {
 }
 
 impl Wakes {
-    /// No mark so far.
+    /// No marks yet.
     pub(crate) fn new(registry: Registry, alloc: Global) -> io::Result<Wakes> {
         let marks = ReadyMarks {
             ready: Vec::new(alloc),
@@ -115,8 +115,8 @@ impl Wakes {
         })
     }
 
-    /// How many marks there are. A mark that was given back serves again, so it is the most sockets that ever had one
-    /// at the same time.
+    /// The number of marks. A mark that was given back is used again, so this is the largest number of sockets that
+    /// ever had one at the same time.
     pub fn marks(&self) -> usize {
         match self.marks.try_borrow() {
             Ok(marks) => marks.ready.len(),
@@ -124,7 +124,7 @@ impl Wakes {
         }
     }
 
-    /// A mark for one socket more, by which its socket is reported from now on. It says ready.
+    /// A mark for one more socket, which is reported by it from now on. It is set to ready.
     pub(crate) fn mark<S: Source>(&self, socket: &mut S) -> Mark {
         let place = self.place();
         let token = match &place {
@@ -144,7 +144,7 @@ impl Wakes {
         self.marks.try_borrow_mut().ok()?.draw(self.alloc)
     }
 
-    /// The mark is free for another socket. What is left of it counts as ready. Takes no memory.
+    /// Frees the mark for another socket. What is left of it counts as ready. Takes no memory.
     pub(crate) fn unmark(&self, mark: Mark) -> Mark {
         let Mark { place, notes } = mark;
         if let Some(place) = place {
@@ -155,7 +155,7 @@ impl Wakes {
         Mark { place: None, notes }
     }
 
-    /// Takes note of the sockets that are ready, and says whether there are any.
+    /// Records the sockets that are ready, and returns whether there are any.
     pub(crate) fn note(&self, events: &Events) -> bool {
         let Ok(marks) = self.marks.try_borrow() else {
             return true;
@@ -168,14 +168,14 @@ impl Wakes {
         any
     }
 
-    /// Each socket may be ready.
+    /// Records that each socket may be ready.
     pub(crate) fn note_all(&self) {
         if let Ok(marks) = self.marks.try_borrow() {
             marks.set_all();
         }
     }
 
-    /// Whether a link had more than it gave since this was asked last.
+    /// Returns whether a link had more than it gave since the last call.
     pub(crate) fn take_more(&self) -> bool {
         self.notes.more.swap(false, Ordering::SeqCst)
     }
@@ -185,14 +185,14 @@ impl Wakes {
         self.notes.tick.load(Ordering::SeqCst)
     }
 
-    /// The pace has come to this tick.
+    /// Sets the pace's last tick.
     pub(crate) fn set_tick(&self, tick: u64) {
         self.notes.tick.store(tick, Ordering::SeqCst);
     }
 }
 
 impl Mark {
-    /// Whether the socket may be ready. What is reported from now on counts for the next time.
+    /// Returns whether the socket may be ready. What is reported from now on counts for the next time.
     pub(crate) fn take(&self) -> bool {
         match &self.place {
             Some(place) => place.ready.swap(false, Ordering::SeqCst),
@@ -200,7 +200,7 @@ impl Mark {
         }
     }
 
-    /// Whether the socket may be ready, for who doesn't look at it now.
+    /// Returns whether the socket may be ready, for a caller that doesn't look at it now.
     pub(crate) fn is_set(&self) -> bool {
         match &self.place {
             Some(place) => place.ready.load(Ordering::SeqCst),
@@ -208,14 +208,14 @@ impl Mark {
         }
     }
 
-    /// The socket may be ready still.
+    /// Records that the socket may still be ready.
     pub(crate) fn set(&self) {
         if let Some(place) = &self.place {
             place.ready.store(true, Ordering::SeqCst);
         }
     }
 
-    /// The socket may have more than was taken of it: the next rest is none.
+    /// Records that the socket may have more than was taken from it: the next rest is skipped.
     pub(crate) fn has_more(&self) {
         self.set();
         if let Some(notes) = &self.notes {

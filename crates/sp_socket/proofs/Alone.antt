@@ -1,4 +1,4 @@
--- One caller alone: every turn is its own.
+-- One caller: every turn is its own.
 use Rattle.std.proofs.Common.{◌≡◌, refl, ap, sym, ◌∙◌, subst, List, [], ◌∷◌, ◌++◌, ℕ, ◌≤◌, Bool, true, false, cond, arith, rules, Option, Some, None, Result, Ok, Err}
 use Rattle.std.specs.Prelude.{◌==◌, IfOk}
 use Rattle.std.proofs.lemmas.Bool.Decides.{nat_tests}
@@ -40,7 +40,7 @@ legal_prefix z past (t ∷ h) g l = (l.0, legal_prefix z (onto t.entries past) h
 setting_of_label : (l : Option CoreLabel) (label : CoreLabel) → l ≡ Some label → setting_in l ≡ label.setting
 setting_of_label l label e = ap setting_in e
 
--- the turns between are none, since they would be of another number
+-- there are no turns between, since they would be of another number
 legal_behind : (z : Setting) (past : List Entry) (h g : List (Turn Entry)) → LegalFrom z past (h ++ g) → (early : List Entry) × LegalFrom z early g
 legal_behind z past [] g l = (past, l)
 legal_behind z past (t ∷ h) g l = legal_behind z (onto t.entries past) h g l.1
@@ -67,7 +67,7 @@ module _ (s : SocketName) (l : ListView) (p q : PassView) (says : Setting → Li
   own_all i same t =
       t.exact ∙ ap (λ (n : ℕ). turns_of n q.seen) (same.0 ∙ i.number) ∙ all_own t.label.setting [] q.seen (one_caller i t) t.legal
 
-  -- the pass stays the socket's only one
+  -- the pass is still the socket's only one
   pub keeps : IsSingle s l p → IsSamePass p q → Each (λ e. e.phase ≡ Expired) q.wins → TookTurn says p q → IsSingle s l q
   keeps i same wins t =
       record {
@@ -83,11 +83,11 @@ module _ (s : SocketName) (l : ListView) (p q : PassView) (says : Setting → Li
         wins = wins;
       }
 
-  -- what it had seen is all that stood before its turn
+  -- what it had seen is all that was before its turn
   all_seen : IsSingle s l p → IsSamePass p q → (t : TookTurn says p q) → t.past ≡ p.seen
   all_seen i same t = no_others t.label.setting p.number p.seen t.past t.turn i.number t.number (one_caller i t) (subst (λ (h : List (Turn Entry)). Legal t.label.setting h) t.seen t.legal) t.others
 
-  -- one turn more
+  -- one more turn
   took_one : (tells : Setting → List (Turn Entry) → Turn Entry → Type 0) → ((z : Setting) (h : List (Turn Entry)) (t : Turn Entry) → says z h t → tells z h t) → IsSingle s l p → IsSamePass p q → (t : TookTurn says p q) → TookOne tells (single_of p) (single_of q)
   took_one tells tell i same t =
       let e = all_seen i same t in
@@ -102,11 +102,11 @@ module _ (s : SocketName) (l : ListView) (p q : PassView) (says : Setting → Li
         said = subst (λ (z : Setting). tells z p.seen t.turn) (sym z) (subst (λ (h : List (Turn Entry)). tells t.label.setting h t.turn) e (tell t.label.setting t.past t.turn t.said));
       }
 
-  -- the same, of what is seen of the socket before it
+  -- the same, for what contracts see of the socket before the turn
   pub took : (v : SingleView) (tells : Setting → List (Turn Entry) → Turn Entry → Type 0) → single_of p ≡ v → IsSingle s l p → IsSamePass p q → TookTurn says p q → ((z : Setting) (h : List (Turn Entry)) (t : Turn Entry) → says z h t → tells z h t) → TookOne tells v (single_of q)
   took v tells e i same t tell = subst (λ (u : SingleView). TookOne tells u (single_of q)) e (took_one tells tell i same t)
 
--- the same, where the number of the caller is spoken of
+-- the same, for a statement about the caller's number
 pub took_by : (s : SocketName) (l : ListView) (p q : PassView) (says : ℕ → Setting → List (Turn Entry) → Turn Entry → Type 0) (v : SingleView) → single_of p ≡ v → IsSingle s l p → IsSamePass p q → TookTurn (says p.number) p q → TookOne (says 1) v (single_of q)
 took_by s l p q says v e i same t =
     took s l p q (says p.number) v (says 1) e i same t (λ z h u x. subst (λ (n : ℕ). says n z h u) i.number x)
@@ -129,7 +129,7 @@ open_for s l p v op e i o =
 open_one : (s : SocketName) (l : ListView) (p q : PassView) (v : SingleView) (op : OpName) → single_of p ≡ v → IsSingle s l p → IsSingle s l q → (IsOpenFor p op → IsOpenFor q op) → IsOpen 1 op v.seen → IsOpen 1 op q.seen
 open_one s l p q v op e i j keep o = is_open s l q op j (keep (open_for s l p v op e i o))
 
--- so are all but the one that was collected
+-- so are all except the one that was collected
 pub others_open : (s : SocketName) (l : ListView) (p q : PassView) (r : Collected) (op : OpName) (v : SingleView) → single_of p ≡ v → IsSingle s l p → IsSingle s l q → opens.KeepsOthers r op p q → KeepsAllBut r op v (single_of q)
 others_open s l p q (collected.NotYet o) op v e i j k = stays_open s l p q v e i j k
 others_open s l p q (collected.Ended outcome) op v e i j k = λ other apart o. open_one s l p q v other e i j (k other apart) o

@@ -1,4 +1,4 @@
--- What a turn begins was never begun before.
+-- What a turn begins was not begun before.
 use Rattle.std.proofs.Common.{◌≡◌, refl, ap, sym, ◌∙◌, subst, List, [], ◌∷◌, ◌++◌, ℕ, ◌+◌, ◌≤◌, Bool, true, false, cond, arith, Some}
 use Rattle.std.specs.Prelude.{Option, None}
 use Rattle.turn_lock.specs.declared.turn.Turn.{Turn}

@@ -1,4 +1,4 @@
--- What timed out was due before: a due list names pending operations alone.
+-- What timed out was due before: a due list names only pending operations.
 use Rattle.std.proofs.Common.{◌≡◌, refl, ap, sym, ◌∙◌, subst, List, [], ◌∷◌, ◌++◌, ℕ, ◌+◌, ◌≤◌, Bool, true, false, cond, arith, inl, inr}
 use Rattle.std.specs.Prelude.{◌⊎◌, Option, Some, None, filter, map, not}
 use Rattle.turn_lock.specs.declared.turn.Turn.{Turn}
@@ -136,7 +136,7 @@ more_ended : (op : OpName) (later past : List Entry) → end_count past op ≤ e
 more_ended op [] past = omega arith
 more_ended op (e ∷ later) past = omega (arith, end_grows op e (later ++ past), more_ended op later past)
 
--- a tick that names an operation which ended stands before its end
+-- a tick that names an operation which has ended comes before its end
 not_after : (z : Setting) (later past : List Entry) (op : OpName) (at : ℕ) (due : List OpName) → AreAllowed z (later ++ past) → 1 ≤ end_count past op → Stands op due → Stands (Tick at due) (later ++ past) → Stands (Tick at due) past
 not_after z [] past op at due a ended named s = s
 not_after z (e ∷ later) past op at due a ended named (inl is) =

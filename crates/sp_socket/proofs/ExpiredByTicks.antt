@@ -1,4 +1,4 @@
--- A caller ends by ticks alone what fell due.
+-- By ticks a caller ends only what fell due.
 use Rattle.std.proofs.Common.{◌≡◌, refl, ap, sym, ◌∙◌, subst, List, [], ◌∷◌, ◌++◌, ℕ}
 use Rattle.sp_base.specs.declared.OpName.{OpName}
 use Rattle.aio_word.specs.declared.results.Raced.{Raced}

@@ -1,4 +1,4 @@
--- Several operations that are open for a pass.
+-- Several operations that a pass has open.
 use Rattle.std.proofs.Common.{◌≢◌, sym, subst, List, [], ◌∷◌, ◌++◌}
 use Rattle.sp_base.specs.declared.OpName.{OpName}
 use Rattle.aio_word.specs.Views.{Each}

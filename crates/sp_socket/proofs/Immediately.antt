@@ -70,7 +70,7 @@ both_parts f xs ys h = go (none_of f xs) (none_of f ys) (sym (list_all-append (�
 both : (f : Entry → Bool) (xs ys : List Entry) → none_of f xs ≡ true → none_of f ys ≡ true → none_of f (xs ++ ys) ≡ true
 both f xs ys a b = list_all-append (λ (e : Entry). not (f e)) xs ys ∙ (λ i. a i && b i)
 
--- the name of a begin that stands here is another one
+-- the name of a begin that is here is another one
 other_name : (b r : Bool) → (not b && r) ≡ true → b ≡ false
 other_name true r h = absurd (cc)
 other_name false r h = refl

@@ -52,15 +52,15 @@ none_both : (op : OpName) (es more : List Entry) → NotTaken op es → NotTaken
 none_both op es more a b =
     list_all-append (λ (e : Entry). not (collects op e)) es more ∙ (λ i. a i && b i)
 
--- only what is settled
+-- only settling entries
 pub none_in : (es : List Entry) → AreSettling es → NoneTaken es
 none_in es s = λ op. none_settling op es s
 
--- what serving records
+-- entries of serving
 pub none_served : (es : List Entry) → AreServing es → NoneTaken es
 none_served es s = λ op. none_serving op es s
 
--- one entry and then what is settled
+-- one entry and then settling entries
 pub none_first : (e : Entry) (t : Turn Entry) → NoneTaken (e ∷ []) → HasFirst e t → NoneTaken t.entries
 none_first e t n h = λ op. subst (NotTaken op) (sym h.entries) (none_both op (e ∷ []) h.late (n op) (none_settling op h.late h.late_settles))
 
@@ -147,7 +147,7 @@ same_if : (op other : OpName) (b : Bool) → same_op op other ≡ b → op ≢ o
 same_if op other true e n = absurd (n (same_op-eq op other e))
 same_if op other false e n = refl
 
--- of another operation
+-- for another operation
 pub not_same : (op other : OpName) → op ≢ other → same_op op other ≡ false
 not_same op other n = same_if op other (same_op op other) refl n
 

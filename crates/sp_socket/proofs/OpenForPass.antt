@@ -37,19 +37,19 @@ module _ (says : Setting → List (Turn Entry) → Turn Entry → Type 0) (befor
       let k = before.number in
       append_cancel_right before.mine (turns_of k t.past) (t.turn ∷ []) (sym t.mine ∙ t.exact ∙ ap (λ (i : ℕ). turns_of i after.seen) same ∙ ap (turns_of k) t.seen ∙ own_more k t.past t.turn t.number)
 
-  -- what is open in the whole history is so for the pass
+  -- what is open in the whole history is open for the pass
   for_pass : (op : OpName) → IsOpenOf before.number op (past_of (t.past ++ t.turn ∷ [])) → IsOpenFor after op
   for_pass op o =
       let k = before.number in
       let mine : turns_of k (t.past ++ t.turn ∷ []) ≡ after.mine = ap (turns_of k) (sym t.seen) ∙ ap (λ (i : ℕ). turns_of i after.seen) (sym same) ∙ sym t.exact in
       subst (λ (n : ℕ). IsOpen n op after.mine) (sym same) (subst (IsOpen k op) mine ((open_in_both t.label.setting k (t.past ++ t.turn ∷ []) op legal_turn).1 o))
 
-  -- and what was open for the pass was so in the whole
+  -- and what was open for the pass was open in the whole history
   was_open : (op : OpName) → IsOpenFor before op → IsOpenOf before.number op (past_of t.past)
   was_open op o =
       (open_in_both t.label.setting before.number t.past op (LegalFrom-prefix t.label.setting [] t.past t.turn legal_turn).0).0 (subst (IsOpen before.number op) own_past o)
 
-  -- what the turn doesn't collect is open still
+  -- what the turn doesn't collect is still open
   pub keeps_one : (op : OpName) → none_of (collects op) t.turn.entries ≡ true → IsOpenFor before op → IsOpenFor after op
   keeps_one op n o = for_pass op (open_after t.label.setting t.past t.turn before.number op legal_turn (was_open op o) n)
 
@@ -63,13 +63,13 @@ module _ (says : Setting → List (Turn Entry) → Turn Entry → Type 0) (befor
     λ was. closed_before t.label.setting t.past t.turn op before.number c act d legal_turn b before.number (was_open op was),
   )
 
--- the same, of what the lock and the core said of the turn
+-- the same, for what the lock and the core said about the turn
 pub kept : (says : Setting → List (Turn Entry) → Turn Entry → Type 0) (t0 t1 t2 : TurnsOf) (h k : PassParts) (x : Turn Entry) (label : CoreLabel) (before : PassView) → before ≡ pass_of t0 h → Went says t0 t1 t2 h k x label → t2.number ≡ before.number → LeavesOpen t1.seen x → KeepsOpen before (pass_of t2 k)
 kept says t0 t1 t2 h k x label before is w same n =
     subst (λ (b : PassView). KeepsOpen b (pass_of t2 k)) (sym is)
     (keeps says (pass_of t0 h) (pass_of t2 k) (took_here says t0 t1 t2 h k x label w) (same ∙ ap (λ (b : PassView). b.number) is) n)
 
--- the same by what the core returned
+-- the same, by what the core returned
 pub begun_open : (says : Setting → List (Turn Entry) → Turn Entry → Type 0) (r : Result OpName BeginError) (c : ℕ) (act : RecordedAct) (d : Option ℕ) (before after : PassView) → TookTurn says before after → ((z : Setting) (h : List (Turn Entry)) (t : Turn Entry) → says z h t → BeganBy r z h t before.number c act d) → after.number ≡ before.number → IfOk r (OpensFor before after)
 begun_open says (Err e) c act d before after t told same = tt
 begun_open says (Ok op) c act d before after t told same = opens says before after t same op c act d (told t.label.setting t.past t.turn t.said)
@@ -79,7 +79,7 @@ pub began_open : {M : Type 0} (P : OpName → Type 0) (r : Result OpName (BeginE
 began_open P (Ok op) h = h
 began_open P (Err e) h = tt
 
--- what was not collected is open still
+-- what was not collected is still open
 pub others_open : (r : Collected) (op : OpName) (before after : PassView) → TookTurn (λ z h t. CollectedBy r op before.number h t) before after → after.number ≡ before.number → KeepsOthers r op before after
 others_open (collected.NotYet o) op before after t same = keeps (λ z h u. CollectedBy (collected.NotYet o) op before.number h u) before after t same (leaves t.past t.turn (none_in t.turn.entries t.said.1))
 others_open (collected.Ended outcome) op before after t same = λ other n o.

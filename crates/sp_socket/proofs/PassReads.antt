@@ -22,7 +22,7 @@ use Rattle.sp_socket.specs.Open.{IsOpenFor}
 use Rattle.sp_socket.specs.Turns.{ReadsAs, ReadsFor}
 use Rattle.sp_history.proofs.OpenOperations.{open_in_both}
 
--- an operation that is open for the pass is open in what it has seen since
+-- an operation that is open for the pass is still open in what it has seen since
 pub open_now : (p : PassView) (t0 t1 : TurnsOf) (h : PassParts) (op : OpName) (k : ℕ) (z : Setting) → p ≡ pass_of t0 h → IsSameCaller t0 t1 → t1.mine ≡ t0.mine → t1.mine ≡ turns_of t1.number t1.seen → Legal z t1.seen → k ≡ t1.number → IsOpenFor p op → IsOpen k op t1.seen
 open_now p t0 t1 h op k z is same mine exact legal number o =
     let o0 : IsOpenFor (pass_of t0 h) op = subst (λ (x : PassView). IsOpenFor x op) is o in

@@ -74,7 +74,7 @@ new_single s l l2 z p one is slots callers last same lock =
 
 -- ---- The end
 
--- an operation that was cancelled was by the one caller, whose wins are expired alone
+-- an operation that was cancelled was cancelled by the one caller, whose wins are only expired operations
 wins_no_cancel : (z : Setting) (h : List (Turn Entry)) (p : PassView) → z.callers ≡ 1 → Legal z h → p.number ≡ 1 → Each (λ e. e.phase ≡ phase.Expired) p.wins → HasItsWins h p → (op : OpName) (by : ℕ) → Stands (op, Gone Cancelled by) (ends (past_of h)) → ⊥
 wins_no_cancel z h p one l number wins has op by s =
     let r = cancelled_by z h op by l s in

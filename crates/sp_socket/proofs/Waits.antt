@@ -93,7 +93,7 @@ unended z op o k h t l c =
 
 -- ---- Turns that collect
 
--- others' turns are free
+-- others' turns are not restricted
 of_others : (op : OpName) (k : ℕ) (h ts : List (Turn Entry)) → turns_of k ts ≡ [] → AreCollectings op k h ts
 of_others op k h [] n = tt
 of_others op k h (t ∷ ts) n = go (t.number == k) refl n (of_others op k (h ++ t ∷ []) ts)
@@ -113,7 +113,7 @@ collect_both op k h (x ∷ xs) ys a b =
 pub no_turn : (op : OpName) (p : PassView) → Waits op p p
 no_turn op p = record { same = (refl, refl, refl); between = []; own = []; seen = plus_none p.seen; mine = plus_none p.mine; are_own = refl; collect = tt; unended = tt; wins = refl; more = []; reads = plus_none p.reads; open_ = λ o h. h }
 
--- one turn more
+-- one more turn
 pub turn_more : (op o : OpName) (before mid after : PassView) → Waits op before mid → IsSamePass mid after → TookTurn (λ z h t. CollectedBy (collected.NotYet o) op mid.number h t) mid after → ReadsFor (collected.NotYet o) op mid after → KeepsOpen mid after → Waits op before after
 turn_more op o before mid after w same t r keeps =
     let n = before.number in
@@ -157,7 +157,7 @@ looked_more op before mid after w l =
       open_ = λ x h. l.still.open_ x (w.open_ x h);
     }
 
--- looking, one by one
+-- no look yet
 pub no_look : (p : PassView) → HasLookedOn p p
 no_look p = record { still = record { same = (refl, refl, refl); seen = refl; mine = refl; open_ = λ o h. h }; wins = refl; more = []; reads = plus_none p.reads }
 

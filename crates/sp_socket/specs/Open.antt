@@ -12,8 +12,8 @@ use Rattle.sp_core.specs.declared.calls.collect.Collected.TheVariants as collect
 use Rattle.sp_core.specs.Collecting.{IsOpen}
 use Rattle.sp_socket.specs.Passes.{PassView, IsSamePass, KeepsSeat}
 
--- the caller of the pass began the operation, and it wasn't collected: its begin stands in the caller's turns, and its
--- Took doesn't
+-- the caller of the pass began the operation, and it wasn't collected: its begin is in the caller's turns, and its Took
+-- doesn't
 abbrev pub IsOpenFor : PassView → OpName → Type 0
 IsOpenFor p op = IsOpen p.number op p.mine
 
@@ -30,7 +30,7 @@ AreOpenFor p (op ∷ ops) = IsOpenFor p op × Each (λ other. op ≢ other) ops 
 abbrev pub NoneTaken : List Entry → Type 0
 NoneTaken es = (op : OpName) → none_of (collects op) es ≡ true
 
--- behind this history, the turn collects nothing that its caller had open
+-- after this history, the turn collects nothing that its caller had open
 abbrev pub LeavesOpen : List (Turn Entry) → Turn Entry → Type 0
 LeavesOpen h t = (op : OpName) → IsOpenOf t.number op (past_of h) → none_of (collects op) t.entries ≡ true
 
@@ -38,18 +38,18 @@ LeavesOpen h t = (op : OpName) → IsOpenOf t.number op (past_of h) → none_of 
 abbrev pub KeepsOpen : PassView → PassView → Type 0
 KeepsOpen before after = (op : OpName) → IsOpenFor before op → IsOpenFor after op
 
--- the same, but for an operation that was collected
+-- the same, except for an operation that was collected
 abbrev pub KeepsOthers : Collected → OpName → PassView → PassView → Type 0
 KeepsOthers (collected.NotYet o) op before after = KeepsOpen before after
 KeepsOthers (collected.Ended outcome) op before after = (other : OpName) → op ≢ other → IsOpenFor before other → IsOpenFor after other
 
--- the pass stays that of its caller, its seat has won and read no more, and what was open for it still is
+-- the pass is still its caller's, its seat has won and read nothing more, and what was open for it still is
 pub record KeepsPass (before after : PassView) : Type 0 where
   pub same : IsSamePass before after
   pub seat : KeepsSeat before after
   pub open_ : KeepsOpen before after
 
--- the pass stays that of its caller, has seen no more, and took no turn
+-- the pass is still its caller's, has seen nothing more, and took no turn
 pub record TakesNoTurn (before after : PassView) : Type 0 where
   pub same : IsSamePass before after
   pub seen : after.seen ≡ before.seen

@@ -38,7 +38,7 @@ pub record IsSound (s : SingleView) : Type 0 where
 abbrev pub IsNow : ℕ → SingleView → Type 0
 IsNow t s = t ≡ now (past_of s.seen)
 
--- the setting of a pass; one of no socket has none, and any stands for it
+-- the setting of a pass; a pass of no socket has none, and then this is any
 abbrev pub setting_in : Option CoreLabel → Setting
 setting_in None = record { role = Pull; raw = false; options = usual Pull 0; slots = 0; callers = 0 }
 setting_in (Some label) = label.setting
@@ -46,7 +46,7 @@ setting_in (Some label) = label.setting
 abbrev pub single_of : PassView → SingleView
 single_of p = record { setting = setting_in p.label; seen = p.seen }
 
--- the pass is the socket's only one, it is out, and all turns are its own; it has ended nothing but what fell due
+-- the pass is the socket's only one, it is out, and all turns are its own; it has ended only what fell due
 pub record IsSingle (s : SocketName) (l : ListView) (p : PassView) : Type 0 where
   pub own : IsOf s p
   pub one : s.words.callers ≡ 1
@@ -59,7 +59,7 @@ pub record IsSingle (s : SocketName) (l : ListView) (p : PassView) : Type 0 wher
   pub settled : Settled (setting_in p.label) p.seen
   pub wins : Each (λ e. e.phase ≡ Expired) p.wins
 
--- the history has one turn more, the caller's, of which this is said; and it is legal and settled
+-- the history has one more turn, the caller's, of which `says` holds; and it is legal and settled
 pub record TookOne (says : Setting → List (Turn Entry) → Turn Entry → Type 0) (before after : SingleView) : Type 0 where
   pub turn : Turn Entry
   pub setting : after.setting ≡ before.setting
@@ -98,7 +98,7 @@ Ticks h t now = (due : List OpName) × DueBy h t now [] due
 abbrev pub AreUncancelled : List Entry → Type 0
 AreUncancelled past = (op : OpName) (by : ℕ) → Stands (op, Gone Cancelled by) (ends past) → ⊥
 
--- what is left of a finished socket: its wires, and its history as the record, in which nothing was cancelled, and each
+-- what is left of a finished socket: its wires, and the record of its history, in which nothing was cancelled, and each
 -- operation that timed out was due
 pub record FinishedAs {W : Type 0} (shown : W → WireView) (s : SingleView) (wires : List (DownPipe W)) (record_ : List (Turn Entry)) : Type 0 where
   pub whole : record_ ≡ s.seen

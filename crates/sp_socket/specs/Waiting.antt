@@ -28,7 +28,7 @@ pub record HasLookedOn (before after : PassView) : Type 0 where
   pub more : List word.ShownOperation
   pub reads : after.reads ≡ before.reads ++ more
 
--- behind this history each turn of the caller k collected, and found the operation pending
+-- after this history each turn of the caller k collected, and found the operation pending
 abbrev pub AreCollectings : OpName → ℕ → List (Turn Entry) → List (Turn Entry) → Type 0
 AreCollectings op k h [] = ⊤
 AreCollectings op k h (t ∷ ts) = (t.number ≡ k → CollectedBy (collected.NotYet op) op k h t) × AreCollectings op k (h ++ t ∷ []) ts

@@ -39,7 +39,7 @@ impl<P, W> BoxedCore<P, W> {
     }
 }
 
-// A lock with the core in its box, and its turn passes. When out of memory the core comes back.
+// A lock with the core in its box, and its turn passes. When out of memory the core is returned.
 pub(crate) fn locked<P: Proto, W: Wire>(
     alloc: Global,
     core: Core<P, W>,

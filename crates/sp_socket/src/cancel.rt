@@ -1,5 +1,4 @@
-//! The calls without a turn: a caller ends an operation, whoever began it, or looks how it stands. They wait for
-//! nobody.
+//! The calls without a turn: a caller ends an operation, whoever began it, or looks up its state. They never wait.
 ghost use Rattle.std.specs.Prelude.{◌<◌};
 ghost use Rattle.aio_word.specs.declared.phase.Phase.TheVariants as phase;
 ghost use Rattle.sp_socket.specs.Passes.{IsOf};
@@ -14,8 +13,8 @@ use sp_msg::Wire;
 use sp_proto::Proto;
 
 impl<P: Proto, W: Wire> Socket<P, W> {
-    /// Cancels the operation (nng_aio_cancel(3)), unless it has ended. One exchange on its word, and no turn: it waits
-    /// for nobody, and takes no memory. What the operation would have got stays for the next one.
+    /// Cancels the operation (nng_aio_cancel(3)), unless it has ended. One exchange on its word, and no turn: it
+    /// doesn't wait, and takes no memory. What the operation would have got stays for the next one.
     pub fn cancel(&self, pass: &mut Pass<P, W>, op: OpName) -> Raced
         requires own { IsOf self.now pass.old }
         ensures still { TakesNoTurn pass.old pass.new }
@@ -25,7 +24,7 @@ impl<P: Proto, W: Wire> Socket<P, W> {
         self.words.cancel(&mut pass.parts.seat, op)
     }
 
-    /// How the operation stands. One look at its word, and no turn: it waits for nobody, and takes no memory.
+    /// Returns the state of the operation. One look at its word, and no turn: it doesn't wait, and takes no memory.
     pub fn poll(&self, pass: &mut Pass<P, W>, op: OpName) -> Polled
         requires own { IsOf self.now pass.old }
         ensures still { TakesNoTurn pass.old pass.new }

@@ -15,7 +15,7 @@ use std::sync::Wait;
 
 impl<P: Proto, W: Wire> Socket<P, W> {
     /// Opens a context (nng_ctx_open(3)); returns its number, one more than the contexts that were opened before.
-    /// Refused by the first cause of `CtxError` that stands.
+    /// Refused for the first cause of `CtxError` that applies.
     pub fn open_ctx<R: Wait>(&self, rt: &R, pass: &mut Pass<P, W>) -> Result<Ctx, CtxError>
         requires own { IsOf self.now pass.old }
         ensures pass { KeepsPass pass.old pass.new }
@@ -26,7 +26,7 @@ impl<P: Proto, W: Wire> Socket<P, W> {
 
     /// Shuts the context (nng_ctx_close(3)): what is pending on it ends, Closed unless a caller has ended it, and what
     /// is kept for it is dropped. Refused where the socket is closed, or no such context is open that can be shut; the
-    /// socket's own can't. Doesn't fail when out of memory.
+    /// socket's own context can't be shut. Doesn't fail when out of memory.
     pub fn close_ctx<R: Wait>(&self, rt: &R, pass: &mut Pass<P, W>, c: Ctx) -> Result<(), CtxError>
         requires own { IsOf self.now pass.old }
         ensures pass { KeepsPass pass.old pass.new }
@@ -35,8 +35,8 @@ impl<P: Proto, W: Wire> Socket<P, W> {
         self.act::<CloseCtx, R>(rt, pass, CloseCtx { c })
     }
 
-    /// Puts a topic on for the context (NNG_OPT_SUB_SUBSCRIBE of nng_sub(7)), of at most 1,024 bytes; one that is there
-    /// stays. Refused by the first cause of `TopicError` that stands.
+    /// Subscribes the context to a topic (NNG_OPT_SUB_SUBSCRIBE of nng_sub(7)) of at most 1,024 bytes; one that is
+    /// there stays. Refused for the first cause of `TopicError` that applies.
     pub fn subscribe<R: Wait>(
         &self,
         rt: &R,
@@ -51,8 +51,8 @@ impl<P: Proto, W: Wire> Socket<P, W> {
         self.act::<SubscribeTopic<'_>, R>(rt, pass, SubscribeTopic { c, topic })
     }
 
-    /// Takes a topic off for the context (NNG_OPT_SUB_UNSUBSCRIBE of nng_sub(7)). What is kept for it and no topic
-    /// matches any more is dropped. Refused by the first cause of `TopicError` that stands. Doesn't fail when out of
+    /// Unsubscribes the context from a topic (NNG_OPT_SUB_UNSUBSCRIBE of nng_sub(7)). What is kept for it and no topic
+    /// matches any more is dropped. Refused for the first cause of `TopicError` that applies. Doesn't fail when out of
     /// memory.
     pub fn unsubscribe<R: Wait>(
         &self,

@@ -15,7 +15,7 @@ pub(crate) trait Told<X> {
     ghost told: { X → List (Turn Entry) };
 }
 
-/// What a socket did, from its first turn to its last. It has no bytes: contracts alone see it, as its turns. Only a
+/// What a socket did, from its first turn to its last. It has no bytes: only contracts see it, as its turns. Only a
 /// socket that ends makes one.
 #[derive(Drop)]
 pub struct Record {

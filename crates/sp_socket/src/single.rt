@@ -22,7 +22,7 @@ use std::sync::Wait;
 /// A socket (nng_socket(5)) with its one caller. It must be spent: `finish` ends it.
 pub struct Single<P: Proto, W: Wire> {
     pub(crate) socket: Socket<P, W>,
-    // Empty while the pass is out.
+    // Empty while the pass is handed out.
     passes: SocketPasses<P, W>,
     pub(crate) pass: Pass<P, W>,
 }
@@ -46,7 +46,7 @@ pub struct SingleEnd<W> {
 }
 
 impl<P: Proto + Drop, W: Wire> Single<P, W> {
-    /// Opens a socket of so many slots, at least 1 and at most 4,096, over a machine that is as good as new.
+    /// Opens a socket of `slots` slots, 1 to 4,096, over a machine in its initial state.
     pub fn open(alloc: Global, proto: P, slots: u32) -> Result<Single<P, W>, NoMemory>
         requires starts { (k : Kind) × Starts P.ties proto k }
         requires slots { (1 ≤ slots) × (slots ≤ 4096) }

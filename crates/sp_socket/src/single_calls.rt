@@ -27,7 +27,7 @@ use sp_proto::Proto;
 use std::sync::Wait;
 
 impl<P: Proto, W: Wire> Single<P, W> {
-    /// Begins a receive, with a deadline or none. Never refused for being out of memory.
+    /// Begins a receive, with a deadline or none. Never refused when out of memory.
     pub fn begin_recv<R: Wait>(
         &mut self,
         rt: &R,
@@ -41,7 +41,7 @@ impl<P: Proto, W: Wire> Single<P, W> {
         self.socket.begin_recv(rt, &mut self.pass, c, deadline)
     }
 
-    /// Begins a send, with a deadline or none. Where it is refused the message comes back as it was.
+    /// Begins a send, with a deadline or none. Where it is refused the message is returned unchanged.
     pub fn begin_send<R: Wait>(
         &mut self,
         rt: &R,
@@ -56,7 +56,7 @@ impl<P: Proto, W: Wire> Single<P, W> {
         self.socket.begin_send(rt, &mut self.pass, c, m, deadline)
     }
 
-    /// The moment is `now`, in milliseconds (one before the last tick counts as that): what is due is named, and ends.
+    /// Ticks at `now`, in milliseconds (one before the last tick counts as that): ends what is due.
     pub fn tick<R: Wait>(&mut self, rt: &R, now: Tick)
         ensures open_ { KeepsOpen self.old self.new }
         ensures turn { TookOne (λ z h t. Ticks h t now) self.old self.new }
@@ -64,7 +64,7 @@ impl<P: Proto, W: Wire> Single<P, W> {
         let _ = self.socket.tick(rt, &mut self.pass, now);
     }
 
-    /// Collects an operation that has ended; else it comes back.
+    /// Collects an operation that has ended; otherwise returns the operation.
     pub fn collect<R: Wait>(&mut self, rt: &R, op: Op) -> Collected
         requires { IsOpen 1 op self.old.seen }
         ensures open_ { StaysOpen result op self.new }
@@ -85,7 +85,7 @@ impl<P: Proto, W: Wire> Single<P, W> {
     }
 
     /// Opens a context (nng_ctx_open(3)); returns its number, one more than the contexts that were opened before.
-    /// Refused by the first cause of `CtxError` that stands.
+    /// Refused for the first cause of `CtxError` that applies.
     pub fn open_ctx<R: Wait>(&mut self, rt: &R) -> Result<Ctx, CtxError>
         ensures open_ { KeepsOpen self.old self.new }
         ensures turn { TookOne (λ z h t. OpenedBy result z h t) self.old self.new }
@@ -94,7 +94,7 @@ impl<P: Proto, W: Wire> Single<P, W> {
     }
 
     /// Shuts the context (nng_ctx_close(3)): what is pending on it ends, and what is kept for it is dropped. Refused
-    /// where the socket is closed, or no such context is open that can be shut; the socket's own can't.
+    /// where the socket is closed, or no such context is open that can be shut; the socket's own context can't be shut.
     pub fn close_ctx<R: Wait>(&mut self, rt: &R, c: Ctx) -> Result<(), CtxError>
         ensures open_ { KeepsOpen self.old self.new }
         ensures turn { TookOne (λ z h t. ShutBy result z h t c) self.old self.new }
@@ -102,8 +102,8 @@ impl<P: Proto, W: Wire> Single<P, W> {
         self.socket.close_ctx(rt, &mut self.pass, c)
     }
 
-    /// Takes a topic off for the context (NNG_OPT_SUB_UNSUBSCRIBE of nng_sub(7)). What is kept for it and no topic
-    /// matches any more is dropped. Refused by the first cause of `TopicError` that stands. Takes no memory.
+    /// Unsubscribes the context from a topic (NNG_OPT_SUB_UNSUBSCRIBE of nng_sub(7)). What is kept for it and no topic
+    /// matches any more is dropped. Refused for the first cause of `TopicError` that applies. Takes no memory.
     pub fn unsubscribe<R: Wait>(&mut self, rt: &R, c: Ctx, topic: &[u8]) -> Result<(), TopicError>
         ensures open_ { KeepsOpen self.old self.new }
         ensures turn { TookOne (λ z h t. UnsubscribedBy result z h t c topic.now) self.old self.new }
@@ -111,8 +111,8 @@ impl<P: Proto, W: Wire> Single<P, W> {
         self.socket.unsubscribe(rt, &mut self.pass, c, topic)
     }
 
-    /// Puts a topic on for the context (NNG_OPT_SUB_SUBSCRIBE of nng_sub(7)), of at most 1,024 bytes; one that is there
-    /// stays. Refused by the first cause of `TopicError` that stands.
+    /// Subscribes the context to a topic (NNG_OPT_SUB_SUBSCRIBE of nng_sub(7)) of at most 1,024 bytes; one that is
+    /// there stays. Refused for the first cause of `TopicError` that applies.
     pub fn subscribe<R: Wait>(&mut self, rt: &R, c: Ctx, topic: &[u8]) -> Result<(), TopicError>
         ensures open_ { KeepsOpen self.old self.new }
         ensures turn { TookOne (λ z h t. SubscribedBy result z h t c topic.now) self.old self.new }
@@ -129,7 +129,7 @@ impl<P: Proto, W: Wire> Single<P, W> {
         self.socket.attach(rt, &mut self.pass, w, place)
     }
 
-    /// The net handed out the link with this place.
+    /// Records that the net handed out the link with this place.
     pub fn met<R: Wait>(&mut self, rt: &R, place: u32)
         ensures open_ { KeepsOpen self.old self.new }
         ensures turn { TookOne (λ z h t. HasFirst (entries.Met place) t) self.old self.new }
@@ -137,7 +137,7 @@ impl<P: Proto, W: Wire> Single<P, W> {
         self.socket.met(rt, &mut self.pass, place)
     }
 
-    /// The link with this place was given back without having become a pipe.
+    /// Records that the link with this place was given back without having become a pipe.
     pub fn missed<R: Wait>(&mut self, rt: &R, place: u32, miss: Miss)
         ensures open_ { KeepsOpen self.old self.new }
         ensures turn { TookOne (λ z h t. HasFirst (entries.NoUp place miss) t) self.old self.new }
@@ -153,7 +153,7 @@ impl<P: Proto, W: Wire> Single<P, W> {
         self.socket.serve(rt, &mut self.pass)
     }
 
-    /// Takes the wire of the pipe that went down first of those that were not taken; none where there is none.
+    /// Takes the wire of the pipe that went down first, of those that were not taken; `None` where there is none.
     pub fn take_ended<R: Wait>(&mut self, rt: &R) -> Option<Gone<W>>
         ensures open_ { KeepsOpen self.old self.new }
         ensures turn { TookOne (λ z h t. TookWire W.shown result z h t) self.old self.new }

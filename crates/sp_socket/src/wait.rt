@@ -18,9 +18,9 @@ use std::thread;
 const LOOKS: u32 = 64;
 
 impl<P: Proto, W: Wire> Socket<P, W> {
-    /// Waits until the caller's operation has ended (nng_aio_wait(3)), and collects it: what it came to, as it stands
-    /// in the history. Takes a turn, and another whenever it has looked `LOOKS` times or has seen the end; it looks
-    /// without a turn, and gives its processor up between two looks. Doesn't fail when out of memory.
+    /// Waits until the caller's operation has ended (nng_aio_wait(3)), and collects it: returns its outcome, as the
+    /// history has it. Takes a turn, and another whenever it has looked `LOOKS` times or has seen the end; it looks
+    /// without a turn, and yields the processor between two looks. Doesn't fail when out of memory.
     pub fn wait<R: Wait>(&self, rt: &R, pass: &mut Pass<P, W>, op: Op) -> Outcome
         requires own { IsOf self.now pass.old }
         requires op { IsOpenFor pass.old op }

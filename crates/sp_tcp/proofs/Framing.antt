@@ -48,7 +48,7 @@ reads_on max u u2 piece new s fit e r = record {
       ∙ ap (λ t. t ++ u2) (text_more r.role r.bodies new);
 }
 
--- no whole message is left
+-- no whole message is left unread
 pub shown_all : (max : ℕ) (u s : List ℕ) → max < 2 ^ 64 → begins max u ≡ false → (r : ReadsAs max u s) → shows (number_in s) max s ≡ r.bodies
 shown_all max u s lt part r = ap (λ (n : ℕ). shows n max s) (reads_number max u s r) ∙ ap (shows r.role max) r.is ∙ shows-rest r.role max r.bodies u lt r.fit part
 

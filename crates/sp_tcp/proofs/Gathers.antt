@@ -32,7 +32,7 @@ take_append k x y = elim (cases_lt k (length x)) [
       ∙ ap (λ t. take k x ++ take (k - length x) t) (drop_at x y (length x) refl))
 ]
 
--- from a place behind the first on
+-- from a place after the first part on
 pub in_behind : (a b : List ℕ) (k n : ℕ) → length a ≡ n → n ≤ k → drop k (a ++ b) ≡ drop (k - n) b
 in_behind a b k n e le =
     let is : k ≡ n + (k - n) = omega arith in
@@ -199,7 +199,7 @@ gathers_some mark items m sent most first lt some =
     let prefix = long_prefix mark items m sent (drop sent (marked mark (wire_text m))) first lt refl in
     omega (arith, length-take most (drop sent (marked_all mark (map wire_text items))), ap length prefix, length-append (drop sent (marked mark (wire_text m))) (marked_all mark (map wire_text (drop 1 items))), long_drop (marked mark (wire_text m)) sent (omega (arith, lt, length-marked mark (wire_text m))), some)
 
--- what is left of a frame behind its header
+-- what is left of a frame after its header
 long_frame : (m : MessageView) (sent : ℕ) → 8 + length m.header ≤ sent → drop sent (frame (wire_text m)) ≡ drop (sent - (8 + length m.header)) m.body
 unfolding frame
 long_frame m sent le =
@@ -226,7 +226,7 @@ pub not_empty : (n : ℕ) (b : Bool) → b ≡ (n == 0) → b ≡ false → 0 < 
 not_empty zero b e f = absurd cc
 not_empty (suc n) b e f = omega arith
 
--- a list that has no first element
+-- a list with no first element is empty
 pub none_left : (n : ℕ) → (0 < n → false ≡ true) → n ≡ 0
 none_left zero h = refl
 none_left (suc n) h = let e : false ≡ true = h (omega arith) in absurd cc

@@ -58,7 +58,7 @@ pub plain_bad : (max : ℕ) (s : List ℕ) → IsMarkedBad [] max s → IsTooLon
 plain_bad max s (inl x) = absurd (x.1 (s, refl))
 plain_bad max s (inr x) = subst (IsTooLong max) (sym x.1) x.2
 
--- one message more behind those that wait
+-- one more message after those that wait
 pub within_more : (mark m : List ℕ) (sent : ℕ) (w : List (List ℕ)) → SentWithin mark sent w → SentWithin mark sent (w ++ m ∷ [])
 within_more mark m sent [] e = omega (arith, e)
 within_more mark m sent (t ∷ rest) lt = lt

@@ -98,7 +98,7 @@ ready_pulled ins.NoMemory k = refl
 
 -- ---- writes
 
--- after writes, with this room and this count of results Full
+-- after writes, with this room and this count of `Full` results
 wrote_marks : (max : ℕ) (l l2 : LinkView) (u : List ℕ) (k : WireMarks) → MarksHold max l u k → WriteCounts l l2 → l2.is_open ≡ l.is_open → (is_ready : Bool) (fulls : ℕ) → MarksHold max l2 u (record k { is_ready = is_ready; fulls = fulls })
 wrote_marks max l l2 u k h c same is_ready fulls = record {
   link_open = (λ e. same ∙ h.link_open e);

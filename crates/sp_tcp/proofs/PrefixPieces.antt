@@ -1,4 +1,4 @@
--- Pieces behind a prefix of a list.
+-- Pieces after a prefix of a list.
 use Rattle.std.proofs.Common.{◌≡◌, ◌≤◌, ◌+◌, ◌++◌, ℕ, List, length, take, drop, sym, ap, ◌∙◌, append_assoc, arith}
 use Rattle.std.proofs.lemmas.List.{take-append-drop, take-append-le, drop-take, take-take, drop_at, drop-append-le, length-take}
 use Rattle.sp_base.specs.Outside.{IsPrefix}

@@ -1,4 +1,4 @@
--- What a pull of a wire over a link comes to.
+-- What a pull of a wire over a link gives.
 use Rattle.std.proofs.Common.{◌≡◌, ◌≤◌, ◌++◌, ℕ, true, false, List, [], ◌∷◌, length, Option, Some, refl, sym, ap, subst, ◌∙◌, append-nil, arith}
 use Rattle.sp_base.specs.SpTcp.{frame, frames, shows, Fit, IsOversize}
 use Rattle.sp_base.specs.Outside.{Told}

@@ -1,4 +1,4 @@
--- Writing, one piece after the other.
+-- Writing, piece by piece.
 use Rattle.std.proofs.Common.{◌≡◌, ◌≤◌, ◌<◌, ◌+◌, ◌-◌, ◌^◌, ◌++◌, ℕ, List, [], ◌∷◌, length, take, drop, refl, sym, ap, ◌∙◌, append-nil, append_assoc, arith, map}
 use Rattle.std.proofs.lemmas.List.{length-append, length-take, length-drop, take-append-drop, take-append-le}
 use Rattle.sp_base.specs.Outside.{grown}

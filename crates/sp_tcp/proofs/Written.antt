@@ -1,4 +1,4 @@
--- What the writing of a wire over a link comes to, and what put and shut do.
+-- What the writing of a wire over a link gives, and what put and shut do.
 use Rattle.std.proofs.Common.{◌≡◌, ◌≤◌, ◌<◌, ◌+◌, ◌^◌, ◌++◌, ℕ, true, false, List, [], ◌∷◌, length, refl, sym, ap, subst, ◌∙◌, inl, inr, arith}
 use Rattle.std.proofs.lemmas.List.{length-append}
 use Rattle.sp_base.specs.SpTcp.{Fit}

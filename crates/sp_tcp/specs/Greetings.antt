@@ -11,7 +11,7 @@ use Rattle.sp_tcp.specs.declared.greeting.Greeted.TheVariants as g
 abbrev pub peer_hello : Role → List ℕ
 peer_hello role = hello (role_number (role_peer role))
 
--- the two greetings of a role, and how many bytes of the second came; while more is waited for, these alone were fed
+-- the two greetings of a role, and how many bytes of the second came; while it waits for more, only these were fed
 pub record AreGreetings (role : Role) (own peer : List ℕ) (seen : ℕ) (waits : Bool) (fed : List ℕ) : Type 0 where
   pub own_is : own ≡ hello (role_number role)
   pub peer_is : peer ≡ peer_hello role

@@ -19,7 +19,7 @@ TakenAs mark max t.Part old new = IsMarkedPart mark max old × (new ≡ old)
 TakenAs mark max t.Oversize old new = IsMarkedBad mark max old × (new ≡ old)
 TakenAs mark max t.NoMemory old new = new ≡ old
 
--- the bytes that were read stand behind the others
+-- the bytes that were read are after the others
 abbrev pub ReadInto : Result LinkRead NoMemory → List ℕ → List ℕ → LinkView → LinkView → Type 0
 ReadInto (Ok (reads.Got n)) old new link link' = ((piece : List ℕ) × (new ≡ old ++ piece) × (0 < length piece) × Came piece link link') × ReadCounts link link' × (link.ended ≡ false)
 ReadInto (Ok reads.NotYet) old new link link' = (new ≡ old) × Quiet link link' × ReadCounts link link' × Rose link.idles link'.idles × (link.ended ≡ false)

@@ -38,7 +38,7 @@ pub record WrotePrefix (mark : List ℕ) (result : LinkWrite) (o : OutletView) (
   pub within : SentWithin mark o.sent o.waiting
   pub wrote : AfterWrite result piece link link'
 
--- the texts that are gone are wholly written, and of the first of the others a part
+-- the texts that are gone are wholly written, and a part of the first of the others
 pub record Wrote (mark : List ℕ) (old new : OutletView) (link link' : LinkView) : Type 0 where
   pub gone : List (List ℕ)
   pub piece : List ℕ

@@ -6,6 +6,6 @@ use Rattle.sp_tcp.specs.Views.{WriteStageView}
 abbrev pub added : WriteStageView → ℕ → List ℕ → WriteStageView
 added s skip piece = record s { bytes = s.bytes ++ take (s.most - length s.bytes) (drop skip piece) }
 
--- as much of a text as there is room for, past its first bytes, and nothing else
+-- as much of a text as there is room for, past its first bytes, and only that
 abbrev pub gathered : WriteStageView → ℕ → List ℕ → WriteStageView
 gathered s skip text = record s { bytes = take s.most (drop skip text) }

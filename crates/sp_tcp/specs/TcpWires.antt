@@ -29,7 +29,7 @@ abbrev pub told_number : Option (List ℕ) → Option ℕ
 told_number None = None
 told_number (Some s) = Some (number_in s)
 
--- the size of a message that is written has no limit of its own
+-- the maximum size of a message that is written
 abbrev pub greatest : ℕ
 greatest = 2 ^ 64 - 1
 
@@ -81,7 +81,7 @@ pub record WritesAs (waiting : List (List ℕ)) (sent : ℕ) (s : List ℕ) : Ty
   pub fit : Fit greatest bodies
   pub is : s ≡ text role bodies ++ take sent (frames waiting)
 
--- what the marks say of the link and of the bytes that were not taken
+-- what the marks say about the link and of the bytes that were not taken
 pub record MarksHold (max : ℕ) (link : LinkView) (unread : List ℕ) (k : WireMarks) : Type 0 where
   pub link_open : k.is_open ≡ true → link.is_open ≡ true
   pub going : k.is_open ≡ true → (k.ended ≡ false) × (k.malformed ≡ false)
@@ -112,7 +112,7 @@ pub record ShowsIn (v : TcpView) (s : List ℕ) : Type 0 where
   pub text_prefix : IsPrefix (text (number_in s) bodies) s
   pub prefix : IsPrefix bodies (shows (number_in s) v.max s)
 
--- at most a part of the first frame, and not all of it
+-- a part of the first frame, and not all of it
 abbrev pub CutShort : List ℕ → List (List ℕ) → Type 0
 CutShort part [] = part ≡ []
 CutShort part (t ∷ rest) = IsPrefix part (frame t) × (length part < length (frame t))
@@ -180,7 +180,7 @@ pub record TcpWrote (old new : TcpView) : Type 0 where
   pub counts : WriteCounts old.link new.link
   pub max : new.max ≡ old.max
 
--- fewer than 16 wait: nothing is written, one message more may be put, and all else is as it was
+-- fewer than 16 wait: nothing is written, one more message may be put, and all else is as it was
 abbrev pub IsLeft : Room → TcpView → TcpView → Type 0
 IsLeft room old new = (room ≡ rooms.Yes) × (new ≡ record old { wire = record old.wire { is_ready = true } })
 
@@ -203,7 +203,7 @@ FlushCause flushes.Failed old new = Rose old.link.faults new.link.faults
 FlushCause flushes.Refused old new = ⊥
 FlushCause flushes.NoMemory old new = ⊥
 
--- a role's greeting was written, and its peer's came with these bytes behind it
+-- a role's greeting was written, and its peer's came followed by these bytes
 abbrev pub Met : List ℕ → LinkView → Type 0
 Met rest link = (role : Role) × Told link.written (λ s. s ≡ hello (role_number role)) × Told link.came (λ s. s ≡ hello (role_number (role_peer role)) ++ rest)
 

@@ -10,7 +10,7 @@ pub record GreetingView : Type 0 where
   pub fed : List ℕ
   pub is_open : Bool
 
--- bytes that came and were not taken yet, and how much room there is behind them
+-- bytes that came and were not taken yet, and how much room there is after them
 pub record InletView : Type 0 where
   pub unread : List ℕ
   pub room : ℕ
@@ -20,12 +20,12 @@ pub record OutletView : Type 0 where
   pub waiting : List (List ℕ)
   pub sent : ℕ
 
--- the bytes of one write, and how many they are at most
+-- the bytes of one write, and their maximum number
 pub record WriteStageView : Type 0 where
   pub bytes : List ℕ
   pub most : ℕ
 
--- what the wire shows, what its link shows, and the most bytes of a body
+-- what the wire shows, what its link shows, and the maximum length of a body
 pub record TcpView : Type 0 where
   pub wire : WireView
   pub link : LinkView

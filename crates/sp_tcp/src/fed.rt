@@ -1,5 +1,5 @@
-//! The bytes that were fed to a greeting, as contracts see them. They take no memory, and nothing is done with them
-//! when a program runs.
+//! The bytes that were fed to a greeting, as contracts see them. They take no memory, and the compiled program does
+//! nothing with them.
 ghost use Rattle.std.specs.Prelude.{◌≡◌, ◌++◌, ℕ, List, []};
 ghost use Rattle.std.specs.Borrow.{ftrue};
 
@@ -34,7 +34,7 @@ impl Fed {
         Fed {}
     }
 
-    /// A piece more was fed.
+    /// One more piece was fed.
     pub(crate) fn and(&self, _piece: &Piece<'_>) -> Fed
         ensures { result.bytes ≡ self.now.bytes ++ _piece.now.bytes.now }
     {

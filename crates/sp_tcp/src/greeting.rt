@@ -1,4 +1,4 @@
-//! Greetings (SP TCP mapping, "Connection initiation"): each side writes its own 8 bytes first, and reads those
+//! Greetings (SP TCP mapping, "Connection initiation"): each side writes its own 8 bytes first, and reads the 8 bytes
 //! of its peer's role.
 ghost use Rattle.std.specs.Prelude.{◌≡◌, ◌≤◌, ◌+◌, ◌++◌, ◌↔◌, ℕ, true, [], take, drop, length, IsTrue};
 ghost use Rattle.sp_base.specs.SpTcp.{hello};
@@ -9,12 +9,12 @@ use crate::fed::{Fed, Piece};
 use sp_base::Role;
 use std::marker::Model;
 
-/// What came of a piece of the peer's greeting.
+/// The result of a piece of the peer's greeting.
 #[derive(Clone, Copy, Debug, PartialEq, Eq)]
 pub enum Greeted {
     /// The greeting is not whole yet.
     More,
-    /// The greeting is whole, and so many bytes of the piece follow it.
+    /// The greeting is whole. The number is how many bytes of the piece follow it.
     Peer(usize),
     /// Something else came.
     Bad,
@@ -24,13 +24,13 @@ pub enum Greeted {
 /// bytes that were fed, and whether it still waits for more; after `Peer` or `Bad` it takes no more.
 #[derive(Debug, Drop)]
 pub struct Greeting {
-    /// The own role.
+    /// The role of this side.
     role: Role,
-    /// The own greeting.
+    /// The greeting that this side writes.
     own: [u8; 8],
-    /// The greeting that is wanted of the peer.
+    /// The greeting that is expected from the peer.
     peer: [u8; 8],
-    /// How many of its bytes came.
+    /// The number of bytes of the peer's greeting that came.
     seen: usize,
     /// Whether it still waits for more.
     waits: bool,
@@ -59,7 +59,7 @@ fn greeting_of(number: u16) -> [u8; 8]
     [0, 83, 80, 0, high, low, 0, 0]
 }
 
-// Whether the bytes are the same.
+// Returns whether the bytes are the same.
 pub(crate) fn is_same(a: &[u8], b: &[u8]) -> bool
     ensures { IsTrue result ↔ (a.now ≡ b.now) }
 {
@@ -67,7 +67,7 @@ pub(crate) fn is_same(a: &[u8], b: &[u8]) -> bool
 }
 
 impl Greeting {
-    /// The greetings of a link with this own role, of whose peer nothing came yet.
+    /// The greetings of a link of a socket of this role, before anything came from the peer.
     pub fn new(role: Role) -> Greeting
         ensures { result ≡ record { role = role; fed = []; is_open = true } }
     {
@@ -81,14 +81,14 @@ impl Greeting {
         }
     }
 
-    /// The greeting of the own role.
+    /// The greeting that this side writes.
     pub fn hello(&self) -> &[u8]
         ensures { result.now ≡ hello (role_number self.now.role) }
     {
         &self.own
     }
 
-    /// Whether it waits for more of the peer's greeting, so that more may be fed.
+    /// Returns whether it waits for more of the peer's greeting, so that more may be fed.
     pub fn is_open(&self) -> bool
         ensures { result ≡ self.now.is_open }
     {

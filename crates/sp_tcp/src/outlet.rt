@@ -15,23 +15,23 @@ use std::alloc::Global;
 use std::collections::VecDeque;
 use std::marker::Model;
 
-/// How many messages may wait.
+/// The maximum number of messages that wait.
 const MOST_WAITING: usize = 16;
 
-/// How many bytes are gathered for one write. A body of which more is left goes out from where it lies.
+/// The maximum number of bytes that are gathered for one write. A longer rest of a body is written from where it is.
 const STAGE_ROOM: usize = 16_384;
 
-/// The messages that wait, and how many bytes of the first one's frame are written. A write gathers the frames
-/// that wait as far as the stage holds them; what the link doesn't take is gathered anew for the next write.
+/// The messages that wait, and how many bytes of the first one's frame are written. A write gathers the frames that
+/// wait as far as the stage holds them; what the link doesn't take is gathered again for the next write.
 #[derive(Debug, Drop)]
 pub struct Outlet {
     /// The oldest first; room for `MOST_WAITING` was taken when it was made.
     waiting: VecDeque<Message>,
     /// How many bytes of the first frame are written.
     sent: usize,
-    /// Where small frames are put together.
+    /// Where small frames are gathered.
     stage: WriteStage,
-    /// How many bytes the link took in all, up to the type's end.
+    /// The number of bytes that the link took in all, saturating.
     taken: u64,
 }
 
@@ -48,7 +48,7 @@ impl Model for Outlet {
     ghost invariant = { λ o. (16 ≤ deque_capacity o.waiting) × (0 < o.stage.most) × (o.stage.most ≤ 65536) };
 }
 
-// Adds the next bytes of a frame, past so many; returns how many are to be passed behind it.
+// Adds the next bytes of a frame, past the first `skip`. Returns how many bytes are still to be skipped after it.
 fn add_frame(stage: &mut WriteStage, m: &Message, skip: usize) -> usize
     ensures bytes { stage.new ≡ added stage.old skip (frame (wire_text m.now)) }
     ensures skip { result ≡ skip - length (frame (wire_text m.now)) }
@@ -59,7 +59,8 @@ fn add_frame(stage: &mut WriteStage, m: &Message, skip: usize) -> usize
     stage.add(behind_header, m.body())
 }
 
-// Adds the next bytes of a frame with these bytes before its size.
+// Adds the next bytes of a frame with the bytes of `mark` before its size, past the first `skip`. Returns how many
+// bytes are still to be skipped after it.
 fn add_marked(stage: &mut WriteStage, mark: &[u8], m: &Message, skip: usize) -> usize
     ensures bytes { stage.new ≡ added stage.old skip (marked mark.now (wire_text m.now)) }
     ensures skip { result ≡ skip - length (marked mark.now (wire_text m.now)) }
@@ -68,7 +69,7 @@ fn add_marked(stage: &mut WriteStage, mark: &[u8], m: &Message, skip: usize) -> 
     add_frame(stage, m, behind_mark)
 }
 
-// Gathers the next bytes of the frames, past so many.
+// Gathers the next bytes of the frames, past the first `skip`.
 fn gather(stage: &mut WriteStage, mark: &[u8], waiting: &VecDeque<Message>, sent: usize)
     ensures { stage.new ≡ gathered stage.old sent (marked_all mark.now (map wire_text waiting.now.items)) }
 {
@@ -79,7 +80,7 @@ fn gather(stage: &mut WriteStage, mark: &[u8], waiting: &VecDeque<Message>, sent
     }
 }
 
-// What is left of a body, where all before it is written and it is longer than so much; else nothing.
+// The rest of the body of `m`, where all before it is written and it is longer than `most`; else nothing.
 fn long_rest<'a>(mark: &[u8], m: &'a Message, sent: usize, most: usize) -> &'a [u8]
     requires few { IsMark mark.now }
     requires within { sent < head_of mark.now + length (wire_text m.now) }
@@ -96,7 +97,8 @@ fn long_rest<'a>(mark: &[u8], m: &'a Message, sent: usize, most: usize) -> &'a [
     rest
 }
 
-// Takes the frames away that are wholly written, where so many bytes are; returns how many are of the next one.
+// Removes the frames that are wholly written, where `written` bytes are. Returns how many bytes of the next frame are
+// written.
 fn pass_frames(mark: &[u8], waiting: &mut VecDeque<Message>, written: usize) -> usize
     requires few { IsMark mark.now }
     requires fits { written ≤ length (marked_all mark.now (map wire_text waiting.old.items)) }
@@ -138,12 +140,12 @@ impl Outlet {
         self.waiting.len()
     }
 
-    /// How many bytes the link took in all, up to the type's end.
+    /// The number of bytes that the link took in all, saturating.
     pub fn taken(&self) -> u64 {
         self.taken
     }
 
-    /// Takes one message more, without memory.
+    /// Takes one more message. Takes no memory.
     pub fn put(&mut self, m: Message)
         requires { length self.old.waiting < 16 }
         ensures text { self.new ≡ record self.old { waiting = self.old.waiting ++ wire_text m ∷ [] } }
@@ -174,7 +176,7 @@ impl Outlet {
         link.write(self.stage.as_slice())
     }
 
-    // One write, after which the frames that are whole are gone.
+    // One write, after which the frames that are wholly written are removed.
     fn write_once<L: Link>(&mut self, mark: &[u8], link: &mut L) -> LinkWrite
         requires is_open { (L.seen link.old).is_open ≡ true }
         requires waiting { 0 < length self.old.waiting }
@@ -195,7 +197,7 @@ impl Outlet {
     }
 }
 
-/// Writes what the link takes, with these bytes before each size.
+/// Writes what the link takes, with the bytes of `mark` before each size.
 pub fn write_from<L: Link>(outlet: &mut Outlet, mark: &[u8], link: &mut L) -> WireFlush
     requires is_open { (L.seen link.old).is_open ≡ true }
     requires few { IsMark mark.now }
@@ -212,7 +214,8 @@ pub fn write_from<L: Link>(outlet: &mut Outlet, mark: &[u8], link: &mut L) -> Wi
     WireFlush::Empty
 }
 
-// Whether there is room for one message more, after the writing ended so, where so many are not wholly written.
+// Returns whether there is room for one more message, where the writing ended with `flushed` and `waiting` messages are
+// not wholly written.
 fn room_after(flushed: WireFlush, waiting: usize) -> Room
     ensures { RoomAfter flushed waiting result }
 {
@@ -231,7 +234,7 @@ fn room_after(flushed: WireFlush, waiting: usize) -> Room
     }
 }
 
-/// Whether there is room for one message more. Where as many wait as may, what the link takes is written first.
+/// Returns whether there is room for one more message. Where the outlet is full, what the link takes is written first.
 pub fn room_from<L: Link>(outlet: &mut Outlet, mark: &[u8], link: &mut L) -> Room
     requires is_open { (L.seen link.old).is_open ≡ true }
     requires few { IsMark mark.now }

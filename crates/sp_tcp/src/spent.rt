@@ -1,4 +1,4 @@
-//! A number that contracts alone see. It takes no memory, and nothing is done with it when a program runs.
+//! A number that only contracts see. It takes no memory, and the compiled program does nothing with it.
 ghost use Rattle.std.specs.Prelude.{◌≡◌, ℕ};
 ghost use Rattle.std.specs.Borrow.{ftrue};
 

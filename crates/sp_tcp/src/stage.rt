@@ -6,11 +6,11 @@ use sp_base::NoMemory;
 use std::alloc::Global;
 use std::marker::Model;
 
-/// Bytes that are to go out in one write, at most so many. Its memory is taken once.
+/// The bytes of one write, at most `most`. Its memory is taken once.
 #[derive(Debug, Drop)]
 pub struct WriteStage {
     bytes: Vec<u8>,
-    /// How many bytes it holds at most.
+    /// The maximum number of bytes.
     most: usize,
 }
 
@@ -26,7 +26,7 @@ impl Model for WriteStage {
 }
 
 impl WriteStage {
-    /// Empty, for at most so many bytes.
+    /// An empty stage for at most `most` bytes.
     pub fn new(alloc: Global, most: usize) -> Result<WriteStage, NoMemory>
         ensures { IfOk result (λ stage. stage ≡ record { bytes = []; most = most }) }
     {
@@ -36,7 +36,7 @@ impl WriteStage {
         })
     }
 
-    /// How many bytes it holds at most.
+    /// The maximum number of bytes.
     pub fn most(&self) -> usize
         ensures { result ≡ self.now.most }
     {
@@ -51,15 +51,15 @@ impl WriteStage {
         &self.bytes
     }
 
-    /// Throws the bytes away.
+    /// Removes the bytes.
     pub fn clear(&mut self)
         ensures { self.new ≡ record self.old { bytes = [] } }
     {
         self.bytes.clear();
     }
 
-    /// Adds as much of a piece as there is room for, past its first `skip` bytes. Returns how many bytes are
-    /// to be passed yet in the pieces that follow.
+    /// Adds as much of a piece as there is room for, past its first `skip` bytes. Returns how many bytes are still to
+    /// be skipped in the pieces that follow.
     pub fn add(&mut self, skip: usize, piece: &[u8]) -> usize
         ensures bytes { self.new ≡ added self.old skip piece.now }
         ensures skip { result ≡ skip - length piece.now }

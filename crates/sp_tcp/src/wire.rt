@@ -14,8 +14,8 @@ use std::alloc::Global;
 use std::marker::Model;
 use std::sync::Wait;
 
-/// A wire over a link that is greeted (SP over TCP, nng_tcp(7)). It reads into one buffer, from which it takes message
-/// after message, and writes many small frames at once. `pull` alone takes memory.
+/// A wire over a link on which the greetings are done (SP over TCP, nng_tcp(7)). It reads into one buffer, from which
+/// it takes message after message, and writes many small frames at once. Only `pull` takes memory.
 #[derive(Drop)]
 pub struct TcpWire<L: Link> {
     /// The link, greeted by both sides.
@@ -24,9 +24,9 @@ pub struct TcpWire<L: Link> {
     inlet: Inlet,
     /// What was put and isn't wholly written.
     outlet: Outlet,
-    /// The most bytes of a body that is read.
+    /// The maximum length of a body that is read, in bytes.
     max: u32,
-    /// What it shows beside its bytes.
+    /// What it shows besides its bytes.
     marks: WireMarks,
     /// How often the link had had nothing to read or had taken nothing when the wire was made.
     spent: Spent,
@@ -44,8 +44,8 @@ impl<L: Link> Model for TcpWire<L> {
 }
 
 impl<L: Link> TcpWire<L> {
-    /// A wire over a link that is greeted: of what is told, the own greeting is all that was written, and the
-    /// peer's and then these bytes are all that came. A body that is read has at most `max` bytes.
+    /// A wire over a link on which the greetings are done: where the link is told, exactly the own greeting was
+    /// written, and exactly the peer's greeting and then `rest` came. A body that is read has at most `max` bytes.
     pub fn new(alloc: Global, link: L, rest: &[u8], max: u32) -> Result<TcpWire<L>, (NoMemory, L)>
         requires is_open { (L.seen link).is_open ≡ true }
         requires met { Met rest.now (L.seen link) }
@@ -60,7 +60,7 @@ impl<L: Link> TcpWire<L> {
         Ok(TcpWire::made(link, inlet, outlet, max))
     }
 
-    // A new wire over a link that had so often had nothing to read or had taken nothing.
+    // A new wire over a link that, as `spent` says, had had nothing to read or had taken nothing.
     fn made(link: L, inlet: Inlet, outlet: Outlet, max: u32) -> TcpWire<L>
         ghost spent: { ℕ }
         requires { Holds (tcp_state (L.seen link) inlet outlet max spent fresh_marks) }
@@ -76,14 +76,14 @@ impl<L: Link> TcpWire<L> {
         }
     }
 
-    /// Whether it may be pulled, asked for room and flushed.
+    /// Returns whether it may be pulled, asked for room and flushed.
     pub fn is_open(&self) -> bool
         ensures { result ≡ self.now.wire.is_open }
     {
         self.marks.is_open
     }
 
-    /// Whether room for one message was found and isn't used yet.
+    /// Returns whether room for one message was found and isn't used yet.
     pub fn is_ready(&self) -> bool
         ensures { result ≡ self.now.wire.is_ready }
     {

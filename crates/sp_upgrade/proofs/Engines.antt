@@ -16,7 +16,7 @@ output_is_encoded encoded old new size r same fits written =
     subst (λ x. OnOk x (new ≡ encoded ++ drop size old)) (fits (omega (arith, same))) written
     ∙ rw (drop_all size old (omega (arith, same)), append-nil)
 
--- an outcome that is the bytes of a key
+-- a result that is the bytes of a key
 nonce_in : (r : Result (List ℕ) DecodeError) → is_nonce r ≡ true → (b : List ℕ) × (r ≡ Ok b) × (length b ≡ 16)
 nonce_in (Ok b) test = (b, refl, grind (arith, nat_tests, test))
 nonce_in (Err e) test = cc test
@@ -34,7 +34,7 @@ key_long text small e =
     let r = nonce_in (decode_of standard text) e in
     ap length (decode_of_strict standard text r.0 (refl, refl) small r.1) ∙ key_size r.0 r.2
 
--- a text of another length is no key
+-- a text of another length is not a key
 pub no_key : (text : List ℕ) → IsBytes text → (length text ≡ 24 → ⊥) → false ≡ is_key text
 no_key text small other = by_test (is_key text) refl
   where
@@ -52,7 +52,7 @@ pub not_decoded : (text : List ℕ) (why : DecodeError) → decode_of standard t
 unfolding is_key
 not_decoded text why e = sym (ap is_nonce e)
 
--- what the encoder gives of 16 bytes is a key
+-- what the encoder makes of 16 bytes is a key
 pub encoded_is_key : (text : List ℕ) → IsKey text → is_key text ≡ true
 unfolding is_key base64
 encoded_is_key text k = ap (λ (t : List ℕ). is_nonce (decode_of standard t)) k.is ∙ ap is_nonce (decode_of-encode_of standard k.nonce refl k.small) ∙ ap (λ (n : ℕ). n == 16) k.long

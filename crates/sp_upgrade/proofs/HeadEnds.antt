@@ -12,14 +12,14 @@ use Rattle.sp_upgrade.specs.Opening.{OfHead, Answers}
 pub blank_fits : (s : List ℕ) (i : ℕ) → IsBlankAt s i → i + 4 ≤ length s
 blank_fits s i e = omega (arith, ap length e, length-take 4 (drop i s), length-drop i s)
 
--- what a head comes to, all that came comes to
+-- the result for a head is the result for all that came
 pub of_all : (IsGood : List ℕ → List ℕ → Type 0) (IsBad : List ℕ → HeadFault → Type 0) (answer : Head) (came head : List ℕ) → HasHead came head → OfHead IsGood IsBad answer head → Answers IsGood IsBad answer came
 of_all IsGood IsBad heads.More came head has of = absurd of
 of_all IsGood IsBad (heads.Good used answer) came head has of = (head, has, of.0, of.1)
 of_all IsGood IsBad (heads.Bad fault) came head has of = inr (head, has, of)
 of_all IsGood IsBad heads.NoMemory came head has of = (head, has, of)
 
--- what is looked at
+-- the part that is looked at
 looked_at : (s : List ℕ) → take (min (length s) most) s ≡ take most s
 looked_at s = elim (leb_tells (length s) most) [
   | inl p ↦ take_all (min (length s) most) s (omega (arith, p.1)) ∙ sym (take_all most s p.1)

@@ -9,7 +9,7 @@ use Rattle.sp_upgrade.specs.Lines.{Lines, same_word, values, has_line, sole}
 true_not_false : true ≡ false → ⊥
 true_not_false e = cc e
 
--- no line, no value
+-- no line, so no value
 pub no_values : (name : List ℕ) (ls : Lines) → has_line name ls ≡ false → values name ls ≡ []
 no_values name [] e = refl
 no_values name (l ∷ ls) e = by_test (λ h. no_values name ls h) (same_word l.0 name) refl
@@ -18,7 +18,7 @@ no_values name (l ∷ ls) e = by_test (λ h. no_values name ls h) (same_word l.0
     by_test later true is = absurd (true_not_false (sym (ap (λ (b : Bool). b || has_line name ls) is) ∙ e))
     by_test later false is = cond-false _ _ _ is ∙ later (sym (ap (λ (b : Bool). b || has_line name ls) is) ∙ e)
 
--- a line, a value
+-- a line, so a value
 pub some_value : (name : List ℕ) (ls : Lines) → has_line name ls ≡ true → (v : List ℕ) × (vs : List (List ℕ)) × (values name ls ≡ v ∷ vs)
 some_value name [] e = absurd (true_not_false (sym e))
 some_value name (l ∷ ls) e = by_test (λ h. some_value name ls h) (same_word l.0 name) refl

@@ -42,7 +42,7 @@ short_long came s l = omega (arith, s.0, l.0)
 
 -- ---- one result
 
--- what is good of a head is one result, and never bad; what is bad of it is one fault
+-- what is good of a head has one result, and is never bad; what is bad of it has one fault
 pub record IsOneAnswer (IsGood : List ℕ → List ℕ → Type 0) (IsBad : List ℕ → HeadFault → Type 0) : Type 0 where
   pub good : (head a b : List ℕ) → IsGood head a → IsGood head b → a ≡ b
   pub apart : (head a : List ℕ) (f : HeadFault) → IsGood head a → IsBad head f → ⊥
@@ -84,7 +84,7 @@ module _ (IsGood : List ℕ → List ℕ → Type 0) (IsBad : List ℕ → HeadF
   same_answer one came heads.NoMemory b x y p q = absurd (p refl)
   same_answer one came a heads.NoMemory x y p q = absurd (q refl)
 
--- ---- of both sides
+-- ---- for both sides
 
 same_some : {A : Type 0} (o : Option A) (a b : A) → o ≡ Some a → o ≡ Some b → a ≡ b
 same_some o a b x y =

@@ -1,4 +1,4 @@
--- Computed rows: the sample opening of RFC 6455 section 1.3 as SP writes it, and what is wrong with heads near it.
+-- Computed rows: the sample opening of RFC 6455 section 1.3 as SP writes it, and what is wrong with similar heads.
 use Rattle.std.proofs.Common.{◌≡◌, ℕ, true, List, [], ◌∷◌, ◌++◌, codes, length, Option, Some, None, refl}
 use Rattle.httparse.specs.Grammar.{crlf, Field, RequestHead, print_request, ResponseHead}
 use Rattle.base64.specs.Rfc4648.{encode_symbols}
@@ -20,7 +20,7 @@ line name value = record { name = name; raw = codes " " ++ value; end = crlf }
 abbrev key : List ℕ
 key = codes "dGhlIHNhbXBsZSBub25jZQ=="
 
--- the sample head, but for what is varied
+-- the sample head, except for what is varied
 abbrev request : List ℕ → List ℕ → ℕ → List Field → RequestHead
 request method target minor fields = record { blank = []; method = method; target = target; minor = minor; line_end = crlf; fields = fields; last = crlf }
 

@@ -13,7 +13,7 @@ Lines = List (List ℕ × List ℕ)
 abbrev pub lines_of : List Field → Lines
 lines_of fields = map name_and_value fields
 
--- equal but for the case of ASCII letters
+-- equal except for the case of ASCII letters
 unfoldable pub same_word : List ℕ → List ℕ → Bool
 same_word a b = bytes_eq (map to_ascii_lowercase a) (map to_ascii_lowercase b)
 
@@ -35,7 +35,7 @@ abbrev pub is_text : Option (List ℕ) → List ℕ → Bool
 is_text None text = false
 is_text (Some v) text = bytes_eq v text
 
--- the parts between commas, of which the first has begun
+-- the parts between commas, the first of which has begun
 abbrev pub parts_from : List ℕ → List ℕ → List (List ℕ)
 parts_from part [] = part ∷ []
 parts_from part (b ∷ bs) = cond (b == comma) (part ∷ parts_from [] bs) (parts_from (part ++ b ∷ []) bs)
@@ -44,7 +44,7 @@ parts_from part (b ∷ bs) = cond (b == comma) (part ∷ parts_from [] bs) (part
 unfoldable pub tokens : List ℕ → List (List ℕ)
 tokens v = map trim_ows (parts_from [] v)
 
--- equal, or equal but for the case of ASCII letters
+-- equal, or equal except for the case of ASCII letters
 abbrev pub same_token : Bool → List ℕ → List ℕ → Bool
 same_token exact a b = cond exact (bytes_eq a b) (same_word a b)
 
@@ -52,7 +52,7 @@ same_token exact a b = cond exact (bytes_eq a b) (same_word a b)
 abbrev pub has_token : Bool → List ℕ → List ℕ → Bool
 has_token exact token v = list_any (λ t. same_token exact t token) (tokens v)
 
--- one of the values has this word as a token, in any case; one has exactly this text as a token
+-- one of the values has this word as a token, in any case; or exactly this text
 abbrev pub has_word : List ℕ → List (List ℕ) → Bool
 has_word word vs = list_any (has_token false word) vs
 

@@ -16,7 +16,7 @@ use Rattle.sp_upgrade.specs.Lines.{Lines, lines_of, values, has_line, sole, is_t
 use Rattle.sp_upgrade.specs.Keys.{base64, is_key_line, accept_of}
 use Rattle.sp_upgrade.specs.Texts.{subprotocol, answer_text}
 
--- the most header lines
+-- the maximum number of header lines
 abbrev pub most_lines : ℕ
 most_lines = 64
 
@@ -25,7 +25,7 @@ abbrev pub first_fault : List (HeadFault × Bool) → Option HeadFault
 first_fault [] = None
 first_fault (f ∷ fs) = cond f.1 (Some f.0) (first_fault fs)
 
--- what a whole head comes to, by what is good of it with an answer and what is bad; out of memory only where it is
+-- the result for a whole head, by what is good of it with an answer and what is bad; out of memory only where it is
 -- good
 abbrev pub OfHead : (List ℕ → List ℕ → Type 0) → (List ℕ → HeadFault → Type 0) → Head → List ℕ → Type 0
 OfHead IsGood IsBad heads.More head = ⊥
@@ -33,14 +33,14 @@ OfHead IsGood IsBad (heads.Good used answer) head = (used ≡ length head) × Is
 OfHead IsGood IsBad (heads.Bad fault) head = IsBad head fault
 OfHead IsGood IsBad heads.NoMemory head = (answer : List ℕ) × IsGood head answer
 
--- what all that came comes to
+-- the result for all that came
 abbrev pub Answers : (List ℕ → List ℕ → Type 0) → (List ℕ → HeadFault → Type 0) → Head → List ℕ → Type 0
 Answers IsGood IsBad heads.More came = IsShort came
 Answers IsGood IsBad (heads.Good used answer) came = (head : List ℕ) × HasHead came head × (used ≡ length head) × IsGood head answer
 Answers IsGood IsBad (heads.Bad fault) came = ((fault ≡ faults.TooLong) × IsTooLong came) ⊎ ((head : List ℕ) × HasHead came head × IsBad head fault)
 Answers IsGood IsBad heads.NoMemory came = (head : List ℕ) × HasHead came head × ((answer : List ℕ) × IsGood head answer)
 
--- all results, except when out of memory, are one
+-- there is only one result, except when out of memory
 abbrev pub AreOne : (Head → Type 0) → Type 0
 AreOne IsAnswer = (a b : Head) → IsAnswer a → IsAnswer b → (a ≡ heads.NoMemory → ⊥) → (b ≡ heads.NoMemory → ⊥) → a ≡ b
 
@@ -59,14 +59,14 @@ server_faults role path method minor target lines =
     ∷ (faults.Protocol, not (has_text (subprotocol role) (values (codes "Sec-WebSocket-Protocol") lines)))
     ∷ []
 
--- the head is this tree, whole, with few enough lines
+-- the head parses to this tree, as a whole, with few enough lines
 abbrev pub IsRequest : List ℕ → RequestHead → Type 0
 IsRequest head h = ReadsRequest head h [] × (length h.fields ≤ most_lines)
 
 abbrev pub request_fault : Role → List ℕ → RequestHead → Option HeadFault
 request_fault role path h = first_fault (server_faults role path h.method h.minor h.target (lines_of h.fields))
 
--- the same of a head whose parts stand at these places
+-- the same for a head whose parts are at these places
 abbrev pub request_fault_at : Role → List ℕ → List ℕ → RequestSpans → List HeaderSpan → Option HeadFault
 request_fault_at role path head r spans =
     first_fault (server_faults role path (span_bytes head r.method) r.version (span_bytes head r.path) (map (header_bytes head) (take r.headers spans)))
@@ -111,7 +111,7 @@ IsResponse head h = ReadsResponse head h [] × (length h.fields ≤ most_lines)
 abbrev pub response_fault : Role → List ℕ → ResponseHead → Option HeadFault
 response_fault role nonce h = first_fault (client_faults role nonce h.minor (status_code h) (lines_of h.fields))
 
--- the same of a head whose parts stand at these places
+-- the same for a head whose parts are at these places
 abbrev pub response_fault_at : Role → List ℕ → List ℕ → ResponseSpans → List HeaderSpan → Option HeadFault
 response_fault_at role nonce head r spans = first_fault (client_faults role nonce r.version r.code (map (header_bytes head) (take r.headers spans)))
 

@@ -18,7 +18,7 @@ subprotocol listening = role_name listening ++ codes ".sp.nanomsg.org"
 abbrev pub field_line : List ℕ → List ℕ → List ℕ
 field_line name value = name ++ codes ": " ++ value ++ crlf
 
--- what the server answers a good head
+-- the server's answer to a good head
 unfoldable pub answer_text : Role → List ℕ → List ℕ
 answer_text listening key =
     codes "HTTP/1.1 101 Switching Protocols" ++ crlf
@@ -28,12 +28,12 @@ answer_text listening key =
     ++ field_line (codes "Sec-WebSocket-Protocol") (subprotocol listening)
     ++ crlf
 
--- four numbers with dots between, a colon and the port
+-- four numbers separated by dots, a colon and the port
 abbrev pub host_text : ℕ → ℕ → ℕ → ℕ → ℕ → List ℕ
 host_text a b c d port =
     decimal a ++ codes "." ++ decimal b ++ codes "." ++ decimal c ++ codes "." ++ decimal d ++ codes ":" ++ decimal port
 
--- what the client asks of a listening socket of this role: the host, the path and 16 bytes of key
+-- the client's request to a listening socket of this role: the host, the path and 16 bytes of key
 unfoldable pub request_text : Role → List ℕ → List ℕ → List ℕ → List ℕ
 request_text listening host path nonce =
     codes "GET " ++ path ++ (codes " HTTP/1.1" ++ crlf)
@@ -45,7 +45,7 @@ request_text listening host path nonce =
     ++ field_line (codes "Sec-WebSocket-Protocol") (subprotocol listening)
     ++ crlf
 
--- an address of WebSocket with one host: its text in the Host line, and its path
+-- a WebSocket address with one host: its text in the Host line, and its path
 pub record Dials (addr : Addr) (host path : List ℕ) : Type 0 where
   pub a : ℕ
   pub b : ℕ
@@ -55,7 +55,7 @@ pub record Dials (addr : Addr) (host path : List ℕ) : Type 0 where
   pub addr_is : addr ≡ addrs.Ws (hosts.V4 a b c d) port path
   pub host_is : host ≡ host_text a b c d port
 
--- one that can be dialed
+-- an address that can be dialed
 abbrev pub IsDialed : Addr → Type 0
 IsDialed (addrs.Ws (hosts.V4 a b c d) port path) = Unit {0}
 IsDialed (addrs.Ws hosts.Any port path) = ⊥

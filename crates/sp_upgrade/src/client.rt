@@ -18,8 +18,8 @@ use sp_base::{Addr, Bytes, Host, NoMemory, Role};
 use std::alloc::Global;
 
 /// What a dialing socket of this role writes first (RFC 6455 sections 1.3 and 4.1): it asks for the subprotocol of its
-/// peer. The address has one host, whose four numbers and port stand in the Host line; the key's 16 bytes are the
-/// caller's. Refused only when out of memory.
+/// peer. The address has one host, whose four numbers and port are in the Host line; the 16 bytes of the key are chosen
+/// by the caller. Fails only when out of memory.
 pub fn client_head(alloc: Global, key: &[u8], addr: &Addr, role: Role) -> Result<Bytes, NoMemory>
     requires key { length key.now ≡ 16 }
     requires addr { IsDialed addr.now }
@@ -78,7 +78,7 @@ fn fault_of(
     None
 }
 
-// What a head comes to.
+// The result for a head.
 fn read_response(alloc: Global, head: &[u8], key: &[u8], role: Role) -> Head
     requires long { length head.now ≤ most }
     requires key { length key.now ≡ 16 }
@@ -101,9 +101,9 @@ fn read_response(alloc: Global, head: &[u8], key: &[u8], role: Role) -> Head
     }
 }
 
-/// What the bytes that came to a dialing socket of this role come to, which wrote these 16 bytes of key (RFC 6455
-/// section 4.1): as `server_head`, with an empty answer. The lines of the accept value and of the subprotocol stand
-/// exactly once, and none of an extension stands, since none was asked for.
+/// The result for the bytes that came to a dialing socket of this role, which wrote these 16 bytes of key (RFC 6455
+/// section 4.1): like `server_head`, with an empty answer. There must be exactly one line with the accept value and one
+/// with the subprotocol, and none with an extension, since none was asked for.
 pub fn client_answer(alloc: Global, came: &[u8], key: &[u8], role: Role) -> Head
     requires { length key.now ≡ 16 }
     ensures { ClientAnswers result came.now key.now role }

@@ -1,24 +1,24 @@
-//! What the bytes that came of a head come to.
+//! The result for the bytes of a head that came.
 ghost use Rattle.std.specs.Prelude.{List, ℕ};
 ghost use Rattle.sp_base.specs.declared.role.Role.{Role};
 ghost use Rattle.sp_upgrade.specs.Opening.{AreOne, ServerAnswers, ClientAnswers};
 
 use sp_base::Bytes;
 
-/// Why a head opens no WebSocket, by the rules of RFC 6455, section 4.2.1 for a server and 4.1 for a client. A server
-/// finds the first eleven, a client `TooLong`, `NotHttp`, `Version`, `Status`, `Upgrade`, `Connection`, `Accept`,
-/// `Extension` and `Protocol`, each in this order.
+/// Why a head doesn't open a WebSocket, by the rules of RFC 6455, section 4.2.1 for a server and 4.1 for a client. A
+/// server finds the first eleven, a client `TooLong`, `NotHttp`, `Version`, `Status`, `Upgrade`, `Connection`,
+/// `Accept`, `Extension` and `Protocol`, each in this order.
 #[derive(Clone, Copy, Debug, PartialEq, Eq)]
 pub enum HeadFault {
     /// 8,192 bytes have no blank line.
     TooLong,
-    /// No head of HTTP of exactly this length, with at most 64 header lines.
+    /// Not an HTTP head of exactly this length, with at most 64 header lines.
     NotHttp,
-    /// Another method than GET.
+    /// The method isn't GET.
     Method,
-    /// Another version than 1.1.
+    /// The version isn't 1.1.
     Version,
-    /// Another target than the listener's path.
+    /// The target isn't the listener's path.
     Path,
     /// No Host line.
     Host,
@@ -32,22 +32,22 @@ pub enum HeadFault {
     Key,
     /// The subprotocol is not offered, or is not the one that was asked for.
     Protocol,
-    /// Another status than 101.
+    /// The status isn't 101.
     Status,
     /// Not exactly one Sec-WebSocket-Accept line, of the value that answers the key.
     Accept,
-    /// A Sec-WebSocket-Extensions line: no extension was asked for.
+    /// There is a Sec-WebSocket-Extensions line, though no extension was asked for.
     Extension,
 }
 
-/// What came of a head (RFC 6455 section 4).
+/// The result of reading a head (RFC 6455 section 4).
 #[derive(Debug, Drop)]
 pub enum Head {
     /// The head isn't whole yet.
     More,
     /// A head that opens a WebSocket: it is the first `used` bytes, and `answer` is to be written.
     Good { used: u32, answer: Bytes },
-    /// It opens none, and no bytes behind it can change that.
+    /// It doesn't open one, and no further bytes can change that.
     Bad(HeadFault),
     /// Out of memory for the answer to a good head; nothing is lost.
     NoMemory,

@@ -2,9 +2,9 @@
 //! for scalability protocols"): one head of HTTP each way, after which both sides write frames.
 //!
 //! Nothing is kept between two calls: each looks at all that came so far, at most 8,192 bytes of it, so the bytes may
-//! come in any cutting. The head is what came up to and including the first blank line; what follows it is left to the
-//! frames. What a head says is stated of the one tree that `httparse`'s grammar gives it, and the faults of that tree
-//! stand in one list, of which the first that holds is returned.
+//! come in pieces of any size. The head is what came up to and including the first blank line; what follows it is left
+//! to the frames. The meaning of a head is stated for the one tree that `httparse`'s grammar gives it. The faults of
+//! that tree are in one list, and the first one that applies is returned.
 #![tactic(auto)]
 
 mod blank;

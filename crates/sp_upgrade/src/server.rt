@@ -16,7 +16,7 @@ use httparse::spans::{EMPTY_HEADER_SPAN, HeaderSpan, RequestSpans, parse_request
 use sp_base::Role;
 use std::alloc::Global;
 
-/// The most bytes of a head.
+/// The maximum length of a head, in bytes.
 pub(crate) const MOST: usize = 8192;
 
 // The first fault of a head that was read.
@@ -72,7 +72,7 @@ fn has_key(head: &[u8], lines: &[HeaderSpan]) -> bool
     }
 }
 
-// What a head comes to.
+// The result for a head.
 fn read_request(alloc: Global, head: &[u8], role: Role, path: &[u8]) -> Head
     requires { length head.now ≤ most }
     ensures { OfHead (GoodRequest role path.now) (BadRequest role path.now) result head.now }
@@ -97,11 +97,11 @@ fn read_request(alloc: Global, head: &[u8], role: Role, path: &[u8]) -> Head
     }
 }
 
-/// What the bytes that came to a listening socket of this role and path come to (RFC 6455 sections 1.3, 4.2.1 and
-/// 4.2.2; the subprotocol is NAME`.sp.nanomsg.org`, of the listening role's name, as the WebSocket mapping of SP has
-/// it). `More` exactly where fewer than 8,192 came without a blank line; else the first fault that holds, in the order
-/// of `HeadFault`; else the answer. Looks at no byte behind the 8,192nd. `NoMemory` only where the head is good and there
-/// is no memory for its answer.
+/// The result for the bytes that came to a listening socket of this role and path (RFC 6455 sections 1.3, 4.2.1 and
+/// 4.2.2; the subprotocol is NAME`.sp.nanomsg.org`, with the listening role's name, as in the WebSocket mapping of SP).
+/// `More` exactly where fewer than 8,192 came without a blank line; otherwise the first fault that applies, in the
+/// order of `HeadFault`; otherwise the answer. Looks at no byte after the 8,192nd. `NoMemory` only where the head is
+/// good and there is no memory for its answer.
 pub fn server_head(alloc: Global, came: &[u8], role: Role, path: &[u8]) -> Head
     ensures { ServerAnswers result came.now role path.now }
 {

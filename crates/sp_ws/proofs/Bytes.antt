@@ -4,7 +4,7 @@ use Rattle.std.specs.List.{concat}
 use Rattle.std.proofs.lemmas.List.Folds.{concat-append}
 use Rattle.std.proofs.lemmas.List.{take_all, take_at, take-append-drop, drop-drop, length-take, length-drop}
 
--- what a read takes stands before what is left
+-- the bytes that a read takes are before those that are left
 pub read_prefix : (fed buf piece : List ℕ) (at n : ℕ) → n ≤ length fed - at → piece ≡ take (at + n - at) (drop at fed) → drop at fed ≡ take n (piece ++ drop n buf) ++ drop (at + n) fed
 read_prefix fed buf piece at n fits is =
     let k : at + n - at ≡ n = omega arith in
@@ -14,14 +14,14 @@ read_prefix fed buf piece at n fits is =
     ∙ ap (λ (x : List ℕ). take n (drop at fed) ++ x) (sym (drop-drop n at fed))
     ∙ take-append-drop n (drop at fed))
 
--- one piece more was handed over
+-- one more piece was handed over
 pub handed_more : (texts new : List (List ℕ)) (piece b : List ℕ) → new ≡ texts ++ piece ∷ [] → piece ≡ b → concat new ≡ concat texts ++ b
 handed_more texts new piece b is same =
     ap concat is
     ∙ concat-append texts (piece ∷ [])
     ∙ ap (λ (x : List ℕ). concat texts ++ x) (append-nil piece ∙ same)
 
--- what was compared stands behind so many bytes
+-- what was compared follows the first n bytes
 pub behind : (fed d b : List ℕ) (at n : ℕ) → d ≡ fed → n ≤ length (take (length d - at) (drop at d)) → take (length (take (length d - at) (drop at d)) - n) (drop n (take (length d - at) (drop at d))) ≡ b → (n ≤ length (drop at fed)) × (drop n (drop at fed) ≡ b)
 behind fed d b at n is fits same =
     let u : List ℕ = take (length d - at) (drop at d) in

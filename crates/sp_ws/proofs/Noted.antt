@@ -11,7 +11,7 @@ use Rattle.sp_ws.specs.Frames.{IsPassed, Names, ReadsTo}
 abbrev pub Told : Type 0
 Told = List (Result Message Error)
 
--- what waits for the link and what was fed may change beside the reads
+-- what waits for the link and what was fed may change without a read
 pub reads_across : (returned : FrameIn) (old mid mid2 new : Told) (b c : Bool) → mid ≡ old → new ≡ mid2 → c ≡ b → ReadsTo returned mid mid2 b → ReadsTo returned old new c
 reads_across returned old mid mid2 new b c before after same t = record {
   passed = t.passed;
@@ -37,6 +37,6 @@ reads_lost returned old mid mid2 new b c before after t = record {
   ];
 }
 
--- one read more
+-- one more read
 pub one_more_read : (old mid new passed : Told) (r : Result Message Error) → mid ≡ old ++ passed → new ≡ mid ++ r ∷ [] → new ≡ old ++ (passed ++ r ∷ [])
 one_more_read old mid new passed r before after = after ∙ ap (λ (l : Told). l ++ r ∷ []) before ∙ append_assoc old passed (r ∷ [])

@@ -1,4 +1,4 @@
--- What sending and writing come to, step by step.
+-- What sending and writing give, step by step.
 use Rattle.std.proofs.Common.{◌≡◌, ◌≤◌, ◌<◌, ◌+◌, ◌-◌, ◌++◌, ◌⊎◌, ℕ, true, false, nat_lt, List, [], ◌∷◌, length, take, drop, get_or, Option, Some, None, refl, sym, ap, subst, ◌∙◌, inl, inr, append-nil, append_assoc, arith}
 use Rattle.std.proofs.lemmas.Bool.{cond-true, cond-false}
 use Rattle.std.proofs.lemmas.Bool.Decides.{nat_tests, leb_tells}
@@ -236,7 +236,7 @@ wrote_more a b c f g h l m n x y = record {
   counts = counts_more l m n x.counts y.counts;
 }
 
--- places stay within what waits
+-- the places stay within what waits
 pub wrote_within : (a b : FrameOutletView) (f g : FramesView) (l m : LinkView) → Wrote a b f g l m → AreWithin (length f.waiting) a.ends → AreWithin (length g.waiting) b.ends
 wrote_within a b f g l m w inside =
     let long : length f.waiting ≡ length w.piece + length g.waiting = omega (arith, ap length w.waiting, length-append w.piece g.waiting) in

@@ -138,7 +138,7 @@ idle_goes (Ok (messages.Pong s)) is_empty n = absurd n
 idle_goes (Ok (messages.Close frame)) is_empty n = absurd (cc n)
 idle_goes (Err e) is_empty n = n.0
 
--- reads behind reads
+-- reads after reads
 behind : (a b : List (Result Message Error)) (x y z : List (Result Message Error)) → y ≡ x ++ a → z ≡ y ++ b → z ≡ x ++ (a ++ b)
 behind a b x y z e f = f ∙ ap (λ (l : List (Result Message Error)). l ++ b) e ∙ append_assoc x a b
 
@@ -177,7 +177,7 @@ read_last returned f f2 f3 g c a other = elim a.reads.last [
   | inr y ↦ absurd (other y.0)
 ]
 
--- whatever was read is behind what was
+-- whatever was read comes after what was read before
 pub read_more : (returned : FrameIn) (f f2 f3 : FramesView) → ReadOn f f2 → AfterNext returned f2 f3 → (more : List (Result Message Error)) × (f3.reads ≡ f.reads ++ more)
 read_more returned f f2 f3 g a = elim a.reads.last [
   | inl x ↦ (g.before ++ (a.reads.passed ++ x.0 ∷ []), behind g.before (a.reads.passed ++ x.0 ∷ []) f.reads f2.reads f3.reads g.reads x.1)
@@ -229,7 +229,7 @@ pulled_body max result lost body f f2 f3 l m g on c h a t = record {
   fed = body_fed max result lost body g.piece f f3 (fed_next (frames.Binary body) g.piece f f2 f3 h a) t;
 }
 
--- the frames are idle still
+-- the frames are still idle
 pub idle_still : (f f2 : FramesView) → AfterNext frames.Idle f f2 → (f3 : FramesView) → f3 ≡ f2 → IsIdle f3
 idle_still f f2 a f3 e = subst IsIdle (sym e) (a.last, a.read.0, a.read.1)
 
@@ -303,7 +303,7 @@ pulled_failed max f f2 f3 f4 l m n g on c h a e q counts rose = record {
 
 -- ---- pulls that are out of memory
 
--- what the link gave last could not be fed
+-- the last bytes from the link could not be fed
 pub pulled_unfed : (max : ℕ) (piece : List ℕ) (f f2 f3 f4 : FramesView) (l m n : LinkView) (g : PullGoing f f2 l m) → ReadOn f f2 → f2.came ≡ f.came → IsFed g.piece f f2 → AfterNext frames.Idle f2 f3 → f4 ≡ f3 → Came piece m n → ReadCounts m n → PulledFrom max ins.NoMemory false f f4 l n
 pulled_unfed max piece f f2 f3 f4 l m n g on c h a e came counts = record {
   going = going_lost piece f f3 f4 l m n (going_next frames.Idle f f2 f3 l m g a) came e counts;

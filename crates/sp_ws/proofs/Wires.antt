@@ -1,4 +1,4 @@
--- What each call of the wire comes to.
+-- What each call of the wire gives.
 use Rattle.std.proofs.Common.{◌≡◌, ◌≤◌, ◌<◌, ◌+◌, ◌-◌, ◌++◌, ℕ, Bool, true, false, List, [], ◌∷◌, length, take, Option, Some, None, refl, sym, ap, subst, ◌∙◌, inl, inr, append-nil, append_assoc, arith}
 use Rattle.std.proofs.lemmas.List.{length-append, take_at}
 use Rattle.sp_base.specs.Views.{LinkView}
@@ -93,7 +93,7 @@ pull_cause ins.Failed lost t l f a = (a.1, a.2)
 pull_cause ins.Refused lost t l f a = a
 pull_cause ins.NoMemory lost t l f a = tt
 
--- ---- the write behind the reads of a pull
+-- ---- the write after the reads of a pull
 
 result_on : (result : WireIn) (max : ℕ) (lost : Bool) (came : List (List ℕ)) (f : FramesView) (waiting : List ℕ) (l m n : LinkView) → PullResult max result lost came f l m → WriteCounts m n → PullResult max result lost came (record f { waiting = waiting }) l n
 result_on (ins.Message msg) max lost came f waiting l m n a c = a

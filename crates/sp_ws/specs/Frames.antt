@@ -28,9 +28,9 @@ abbrev pub AfterFeed : Result Unit NoMemory → List ℕ → FramesView → Fram
 AfterFeed (Ok _) b old new = new ≡ record old { fed = old.fed ++ b }
 AfterFeed (Err _) b old new = new ≡ old
 
--- ---- what a read of the crate that frames gave, and what it is called
+-- ---- the result of a read of the crate that does the framing, and its name here
 
--- messages that are passed over
+-- messages that are skipped
 abbrev pub IsControl : Message → Type 0
 IsControl (messages.Text s) = ⊥
 IsControl (messages.Binary s) = ⊥
@@ -54,7 +54,7 @@ IsCopied ins.NoMemory b = Unit {0}
 abbrev pub IsClosed : Error → Type 0
 IsClosed e = (e ≡ errors.ConnectionClosed) ⊎ (e ≡ errors.AlreadyClosed)
 
--- there was no memory for it, or for what the rules of frames answer by themselves
+-- there was no memory for it, or for what the framing rules answer by themselves
 abbrev pub IsOutOfMemory : Error → Type 0
 IsOutOfMemory errors.OutOfMemory = Unit {0}
 IsOutOfMemory (errors.Io cause) = error_kind cause ≡ kinds.OutOfMemory
@@ -65,12 +65,12 @@ abbrev pub IsEnd : Error → Type 0
 IsEnd (errors.Protocol cause) = cause ≡ breaches.ResetWithoutClosingHandshake
 IsEnd e = ⊥
 
--- nothing was there to read
+-- there was nothing to read
 abbrev pub Waits : Error → Type 0
 Waits (errors.Io cause) = error_kind cause ≡ kinds.WouldBlock
 Waits e = ⊥
 
--- what a failed read is called, where the stream is empty or not
+-- the name of a failed read, where the stream is empty or not
 abbrev pub Fails : FrameIn → Error → Bool → Type 0
 Fails (ins.Binary bytes) e is_empty = ⊥
 Fails ins.Text e is_empty = ⊥
@@ -79,7 +79,7 @@ Fails ins.Closed e is_empty = IsClosed e
 Fails ins.Broken e is_empty = (IsClosed e → ⊥) × (IsOutOfMemory e → ⊥) × (Waits e → is_empty ≡ true → ⊥) × (IsEnd e → is_empty ≡ true → ⊥)
 Fails ins.NoMemory e is_empty = IsOutside e ⊎ (IsEnd e × (is_empty ≡ true))
 
--- what a read's result is called
+-- the name of a read's result
 abbrev pub Names : FrameIn → Result Message Error → Bool → Type 0
 Names returned (Ok (messages.Text s)) is_empty = returned ≡ ins.Text
 Names returned (Ok (messages.Binary s)) is_empty = IsCopied returned s
@@ -130,7 +130,7 @@ AllRead ins.Closed new = Unit {0}
 AllRead ins.Broken new = Unit {0}
 AllRead ins.NoMemory new = Unit {0}
 
--- more may wait than before: what the rules of frames answer by themselves; nothing that was fed is lost
+-- more may wait than before: what the framing rules answer by themselves; nothing that was fed is lost
 pub record AfterNext (returned : FrameIn) (old new : FramesView) : Type 0 where
   pub replies : List ℕ
   pub waiting : new.waiting ≡ old.waiting ++ replies
@@ -150,7 +150,7 @@ pub record IsFrame (role : Role) (bytes body : List ℕ) : Type 0 where
   pub masked : IsMaskOf role mask
   pub is : bytes ≡ encode_frame (whole_header (codes.Data datas.Binary) mask) body
 
--- it stands behind what waited
+-- it comes after what waited
 pub record IsSent (body : List ℕ) (old new : FramesView) : Type 0 where
   pub piece : List ℕ
   pub frame : IsFrame old.role piece body

@@ -17,31 +17,31 @@ use Rattle.sp_msg.specs.Wires.{RoomAfter}
 use Rattle.sp_ws.specs.declared.frames.FrameOut.{FrameOut}
 use Rattle.sp_ws.specs.declared.frames.FrameOut.TheVariants as outs
 
--- the places that are left after so many bytes went
+-- the places that are left after the first n bytes went
 abbrev pub passed : ℕ → List ℕ → List ℕ
 passed n [] = []
 passed n (e ∷ es) = cond (nat_lt n e) ((e - n) ∷ passed n es) (passed n es)
 
--- each place lies behind some of so many bytes
+-- each place is after at least one of the first `long` bytes
 abbrev pub AreWithin : ℕ → List ℕ → Type 0
 AreWithin long [] = Unit {0}
 AreWithin long (e ∷ es) = ((0 < e) × (e ≤ long)) × AreWithin long es
 
--- the bytes are the frames of these bodies, one behind the other, which end at these places where the first begins at
--- the place `at`
+-- the bytes are the frames of these bodies, one after another; they end at these places, where the first begins at the
+-- place `at`
 abbrev pub AreFrames : Role → ℕ → List (List ℕ) → List ℕ → List ℕ → Type 0
 AreFrames role at [] [] s = s ≡ []
 AreFrames role at [] (p ∷ ps) s = ⊥
 AreFrames role at (body ∷ bodies) [] s = ⊥
 AreFrames role at (body ∷ bodies) (p ∷ ps) s = (frame : List ℕ) × (rest : List ℕ) × (s ≡ frame ++ rest) × IsFrame role frame body × (p ≡ at + length frame) × AreFrames role p bodies ps rest
 
--- the oldest text in hand was given to the frames
+-- the oldest text that was not sent was given to the frames
 abbrev pub GaveOldest : FrameOut → FrameOutletView → FrameOutletView → FramesView → FramesView → Type 0
 GaveOldest outs.Done old new f f' = (body : List ℕ) × (old.held ≡ body ∷ new.held) × (new.ends ≡ old.ends ++ length f'.waiting ∷ []) × AfterSend outs.Done body f f'
 GaveOldest outs.Refused old new f f' = ⊥
 GaveOldest outs.NoMemory old new f f' = (new ≡ old) × (f' ≡ f)
 
--- the texts that are gone from the hand were sent, each once and in order; nothing else of the frames changes
+-- the texts that are no longer kept were sent, each once and in order; nothing else of the frames changes
 pub record Gave (old new : FrameOutletView) (f f' : FramesView) : Type 0 where
   pub gone : List (List ℕ)
   pub places : List ℕ
@@ -59,7 +59,7 @@ GaveAll outs.Done new f f' = (new.held ≡ []) × (f'.refusals ≡ f.refusals)
 GaveAll outs.Refused new f f' = ⊥
 GaveAll outs.NoMemory new f f' = (0 < length new.held) × (f'.refusals ≡ f.refusals)
 
--- what the link took is the prefix of what waited
+-- what the link took is a prefix of what waited
 pub record Wrote (old new : FrameOutletView) (f f' : FramesView) (link link' : LinkView) : Type 0 where
   pub piece : List ℕ
   pub waiting : f.waiting ≡ piece ++ f'.waiting
@@ -94,7 +94,7 @@ FlushResult flushes.Failed waits f f' link link' = (0 < waits) × Rose link.faul
 FlushResult flushes.Refused waits f f' link link' = ⊥
 FlushResult flushes.NoMemory waits f f' link link' = (0 < waits) × (f'.refusals ≡ f.refusals)
 
--- what was in hand was sent, and then what the link takes was written
+-- what was not sent yet was sent, and then what the link takes was written
 pub record FlushedFrom (result : WireFlush) (old new : FrameOutletView) (f f' : FramesView) (link link' : LinkView) : Type 0 where
   pub mid : FrameOutletView
   pub framed : FramesView
@@ -110,7 +110,7 @@ pub record IsLeft (room : Room) (old new : FrameOutletView) (f f' : FramesView) 
   pub frames : f' ≡ f
   pub link_is : link' ≡ link
 
--- 16 wait, and what is in hand is sent and what the link takes is written first
+-- 16 wait, and what was not sent yet is sent and what the link takes is written first
 pub record IsMade (room : Room) (old new : FrameOutletView) (f f' : FramesView) (link link' : LinkView) : Type 0 where
   pub many : 16 ≤ count_of old
   pub ended : WireFlush
@@ -122,14 +122,14 @@ RoomFrom room old new f f' link link' = IsLeft room old new f f' link link' ⊎ 
 
 -- ---- replies
 
--- replies that are new go to the link at once, in one write, where no frame of a message waits before them; else nothing
--- is written. These bytes are what it took
+-- replies that are new go to the link at once, in one write, where no frame of a message waits before them; else
+-- nothing is written. `took` is what it took
 pub record AtOnce (is_new : Type 0) (ends took : List ℕ) (link link' : LinkView) : Type 0 where
   pub tried : is_new → ends ≡ [] → (0 < length took) ⊎ Rose link.stalls link'.stalls ⊎ Rose link.faults link'.faults
   pub none_new : (is_new → ⊥) → (took ≡ []) × (link'.stalls ≡ link.stalls)
   pub none_first : 0 < length ends → (took ≡ []) × (link'.stalls ≡ link.stalls)
 
--- so many bytes waited before they came
+-- `had` bytes waited before the replies came
 pub record Answered (had : ℕ) (old new : FrameOutletView) (f f' : FramesView) (link link' : LinkView) : Type 0 where
   pub took : List ℕ
   pub outlet : new ≡ old

@@ -1,4 +1,4 @@
--- What each call does to a socket over memory and what stands beside it.
+-- What each call does to a socket over memory and what is kept beside it.
 use Rattle.std.specs.Prelude.{◌≡◌, ◌≤◌, ◌++◌, ◌⊎◌, ℕ, zero, suc, Bool, true, false, List, [], length, drop, Option, Some, None, ◌==◌, Result, Ok, Err}
 use Rattle.std.specs.List.{concat}
 use Rattle.sp_base.specs.declared.error.NoMemory.{NoMemory}
@@ -27,21 +27,21 @@ handed_in s = concat s.handed.texts
 abbrev pub unread_of : Stream → ℕ
 unread_of s = length (unread_in s.socket.stream)
 
--- what a socket shows of its stream and of what it counts beside it; it refuses nothing
+-- what a socket shows of its stream and of what it counts besides; it refuses nothing
 abbrev pub frames_view : Stream → List (List ℕ) → List (List ℕ) → LastResult → ℕ → FramesView
 frames_view s came sent last breaks =
     record { role = s.role; handed = handed_in s; fed = s.fed.items; left = unread_of s; waiting = s.out; came = came; sent = sent; last = last; refusals = 0; breaks = breaks; reads = s.reads.all; config = s.socket.conn.config }
 
--- behind so many bytes these bytes stand, and no more
+-- the bytes of b are all that follows the first n bytes of s
 abbrev pub IsBehind : ℕ → List ℕ → List ℕ → Type 0
 IsBehind n b s = (n ≤ length s) × (drop n s ≡ b)
 
--- what was fed was handed over: it stands behind as many bytes as were not read; and what waits stays
+-- what was fed was handed over: it follows as many bytes as were not read; and what waits stays
 abbrev pub Loaded : Bool → Stream → Stream → Type 0
 Loaded true old new = (new.fed.items ≡ []) × IsBehind (unread_of old) old.fed.items (unread_in new.socket.stream) × (new.out ≡ old.out) × (new.role ≡ old.role) × (handed_in new ≡ handed_in old ++ old.fed.items)
 Loaded false old new = (new.out ≡ old.out) × (new.role ≡ old.role) × (new.handed ≡ old.handed) × (new.fed ≡ old.fed)
 
--- what was fed is as it was, and as much isn't read
+-- what was fed is as it was, and the number of unread bytes too
 abbrev pub KeptUnread : Bool → Stream → Stream → Type 0
 KeptUnread done old new = (new.fed ≡ old.fed) × (new.role ≡ old.role) × (done ≡ true → unread_of new ≡ unread_of old) × (new.handed ≡ old.handed)
 
@@ -64,7 +64,7 @@ IsNamed (Some returned) r empty = Names returned r empty
 abbrev pub is_dry : Socket Memory → Bool
 is_dry s = length (unread_in s.stream) == 0
 
--- the socket's read returned that, after messages that were passed over; or there was no end to these
+-- the socket's read returned that, after messages that were skipped; or it was all such messages
 abbrev pub ReadTo : FrameIn → Socket Memory → Socket Memory → Type 0
 ReadTo returned old new =
     ((count : ℕ) × (mid : Socket Memory) × Passed count old mid × ((r : Result Message Error) × Reads remaining_in mid new r × Names returned r (is_dry new)))

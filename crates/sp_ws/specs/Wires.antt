@@ -21,11 +21,12 @@ use Rattle.sp_ws.specs.declared.side.Side.{Side}
 use Rattle.sp_ws.specs.Pulls.{IsIdle, PullReads, WasFed}
 use Rattle.sp_ws.specs.declared.frames.LastResult.TheVariants as lasts
 
--- the bodies that were pulled: all that came, but for the last one where it was lost
+-- the bodies that were pulled: all that came, except the last one where it was lost
 abbrev pub came_in : Bool → List (List ℕ) → List (List ℕ)
 came_in lost came = cond lost (take (length came - 1) came) came
 
--- its name: it runs over this link, which had so often had nothing to read or had taken nothing
+-- its name: the wire runs over this link, and `spent` is how often the link had had nothing to read or had taken
+-- nothing
 abbrev pub wire_name : LinkView → ℕ → ℕ → WireName
 wire_name link max spent = OverLink link.place max (scheme_number link.scheme) spent None None
 
@@ -42,12 +43,12 @@ pub record WsState : Type 0 where
 abbrev pub ws_state : LinkView → FramesView → FrameOutletView → Bool → ℕ → ℕ → WireMarks → WsState
 ws_state link frames outlet lost max spent marks = record { link = link; frames = frames; outlet = outlet; lost = lost; max = max; spent = spent; marks = marks }
 
--- the texts that were put are those that were sent and those in hand
+-- the texts that were put are those that were sent and those that are not sent yet
 abbrev pub wire_of : WsState → WireView
 wire_of t = wire_view (wire_name t.link t.max t.spent) (Some (came_in t.lost t.frames.came)) (Some (t.frames.sent ++ t.outlet.held)) (count_of t.outlet) false t.marks
 
--- what the wire shows, what its link and its frames show, the texts in hand and the places of frames that are not
--- wholly written, and the most bytes of a body
+-- what the wire shows, what its link and its frames show, the texts that are not sent yet and the places of frames that
+-- are not wholly written, and the maximum length of a body
 pub record WsView : Type 0 where
   pub wire : WireView
   pub link : LinkView
@@ -62,7 +63,7 @@ ws_view t = record { wire = wire_of t; link = t.link; frames = t.frames; outlet 
 abbrev pub HasEnded : LinkView → FramesView → Type 0
 HasEnded link f = (link.ended ≡ true) ⊎ (f.last ≡ lasts.Closed)
 
--- what came last is no message by the rules of the wire
+-- what came last is not a message by the rules of the wire
 abbrev pub IsMalformed : ℕ → FramesView → Type 0
 IsMalformed max f = ((f.last ≡ lasts.Text) ⊎ (f.last ≡ lasts.Broken)) ⊎ ((before : List (List ℕ)) × (body : List ℕ) × (f.came ≡ before ++ body ∷ []) × (max < length body))
 
@@ -113,15 +114,15 @@ PullCause ins.Failed old new = IsIdle new.frames × Rose old.link.faults new.lin
 PullCause ins.Refused old new = ⊥
 PullCause ins.NoMemory old new = Unit {0}
 
--- how the counts of a link stand after reads and a write
+-- the counts of a link after reads and a write
 pub record PullCounts (old new : LinkView) : Type 0 where
   pub faults : old.faults ≤ new.faults
   pub idles : old.idles ≤ new.idles
   pub stalls : old.stalls ≤ new.stalls
 
--- a pull sends nothing; what the link gave was fed; what the rules of frames answer by themselves stands behind what
--- waited, and goes to the link at once where no frame of a message waits; what the link took is the prefix of what waits
--- then; what came is what the crate that frames read
+-- a pull sends nothing; what the link gave was fed; what the framing rules answer by themselves comes after what
+-- waited, and goes to the link at once where no frame of a message waits; what the link took is a prefix of what waits
+-- then; what came is what the crate that does the framing read
 pub record WsPulled (result : WireIn) (old new : WsView) : Type 0 where
   pub cause : PullCause result old new
   pub piece : List ℕ
@@ -138,9 +139,9 @@ pub record WsPulled (result : WireIn) (old new : WsView) : Type 0 where
   pub reads : PullReads result old.frames new.frames
   pub role : new.frames.role ≡ old.frames.role
 
--- room and flush read nothing, and what was fed stays; what was in hand is sent, each message once, in order and as one
--- frame behind what waited; what the link took is the prefix of what waits then; and of the places of frames those are
--- left that it did not reach
+-- room and flush read nothing, and what was fed stays; what was not sent yet is sent, each message once, in order and
+-- as one frame after what waited; what the link took is a prefix of what waits then; and of the places of frames those
+-- are left that it did not reach
 pub record WsWrote (old new : WsView) : Type 0 where
   pub gone : List (List ℕ)
   pub places : List ℕ
@@ -156,7 +157,7 @@ pub record WsWrote (old new : WsView) : Type 0 where
   pub kept : new.frames ≡ record old.frames { waiting = new.frames.waiting; sent = new.frames.sent }
   pub max : new.max ≡ old.max
 
--- fewer than 16 wait: nothing is sent or written, one message more may be put, and all else is as it was
+-- fewer than 16 wait: nothing is sent or written, one more message may be put, and all else is as it was
 abbrev pub IsLeft : Room → WsView → WsView → Type 0
 IsLeft room old new = (room ≡ rooms.Yes) × (new ≡ record old { wire = record old.wire { is_ready = true } })
 
@@ -179,8 +180,8 @@ FlushCause flushes.Failed old new = Rose old.link.faults new.link.faults
 FlushCause flushes.Refused old new = ⊥
 FlushCause flushes.NoMemory old new = Unit {0}
 
--- nothing was pulled or put, every call is lawful, these bytes were fed, and the crate that frames takes messages and
--- frames of at most `max` bytes
+-- nothing was pulled or put, every call is lawful, these bytes were fed, and the crate that does the framing takes
+-- messages and frames of at most `max` bytes
 pub record IsNewWire (side : Side) (max : ℕ) (rest : List ℕ) (link : LinkView) (v : WsView) : Type 0 where
   pub link_is : v.link ≡ link
   pub max_is : v.max ≡ max

@@ -1,28 +1,28 @@
-//! Where bytes stand among frames (RFC 6455 section 5.2).
+//! How bytes are cut into frames (RFC 6455 section 5.2).
 ghost use Rattle.std.specs.Prelude.{◌≤◌, length};
 
 use websocket::protocol::frame::FrameHeader;
 use websocket::protocol::frame::coding::OpCode;
 
-/// The cuts between the frames of the bytes that were passed over so far.
+/// The cuts between the frames of the bytes that were passed so far.
 #[derive(Clone, Copy, Debug, Drop)]
 pub(crate) struct Cuts {
-    /// The first `got` bytes are what came of the next frame's header.
+    /// The first `got` bytes are the part of the next frame's header that came.
     head: [u8; 14],
     got: usize,
-    /// How many bytes of the last frame's payload are yet to come.
+    /// The number of bytes of the last frame's payload that are still to come.
     left: u64,
-    /// A message of several frames was begun, and its last one is yet to come.
+    /// A message of several frames was begun, and its last one is still to come.
     is_begun: bool,
     /// What came is no header.
     is_broken: bool,
-    /// The most bytes that a frame had, or that were passed over at once.
+    /// The largest number of bytes that a frame had, or that were passed at once.
     most: u64,
     ghost inside: { got ≤ 14 },
 }
 
 impl Cuts {
-    /// Nothing was passed over.
+    /// Before any byte was passed.
     pub(crate) fn new() -> Cuts {
         Cuts {
             head: [0; 14],
@@ -34,17 +34,17 @@ impl Cuts {
         }
     }
 
-    /// Whether all frames came whole, and with them all messages that were begun.
+    /// Returns whether all frames came whole, and all messages that were begun.
     pub(crate) fn are_whole(&self) -> bool {
         self.got == 0 && self.left == 0 && !self.is_begun && !self.is_broken
     }
 
-    /// The most bytes that a frame had, or that were passed over at once.
+    /// The largest number of bytes that a frame had, or that were passed at once.
     pub(crate) fn most(&self) -> u64 {
         self.most
     }
 
-    // A frame with this header, and so many bytes of payload, is next.
+    // The next frame has this header and `size` bytes of payload.
     fn begin(&mut self, header: FrameHeader, size: u64) {
         self.got = 0;
         self.left = size;
@@ -54,7 +54,7 @@ impl Cuts {
         }
     }
 
-    // One byte more of a header.
+    // Adds one byte of a header.
     fn add(&mut self, byte: u8) {
         if self.got >= self.head.len() {
             self.is_broken = true;
@@ -69,7 +69,7 @@ impl Cuts {
         }
     }
 
-    // Passes over what these bytes bring of a payload, or over one byte of a header; how many bytes that is.
+    // Passes what these bytes bring of a payload, or one byte of a header. Returns the number of bytes that it passed.
     fn pass_some(&mut self, first: u8, long: usize) -> usize
         requires { 1 ≤ long }
         ensures some { 1 ≤ result }
@@ -84,7 +84,7 @@ impl Cuts {
         n as usize
     }
 
-    /// Passes over these bytes.
+    /// Passes these bytes.
     pub(crate) fn pass(&mut self, b: &[u8]) {
         self.most = self.most.max(b.len() as u64);
         let mut at = 0;

@@ -1,11 +1,11 @@
-//! What frames messages: the seam to the crate that does.
+//! Messages in frames: the interface to the crate that does the framing.
 ghost use Rattle.std.specs.Prelude.{◌≡◌, ◌≤◌, ◌++◌, length, drop};
 ghost use Rattle.sp_ws.specs.Views.{FramesView};
 ghost use Rattle.sp_ws.specs.Frames.{AfterFeed, AfterNext, AfterSend};
 
 use sp_base::{Bytes, NoMemory};
 
-/// What comes next of what was fed (RFC 6455 sections 5.4 to 5.6).
+/// The next message of what was fed (RFC 6455 sections 5.4 to 5.6).
 #[derive(Debug, Drop)]
 pub enum FrameIn {
     /// A binary message.
@@ -14,15 +14,15 @@ pub enum FrameIn {
     Text,
     /// All that was fed was read, and no whole message is left.
     Idle,
-    /// The peer closed (RFC 6455 section 5.5.1).
+    /// The peer closed the connection (RFC 6455 section 5.5.1).
     Closed,
-    /// No message by the rules of frames (RFC 6455 sections 5.2 to 5.5), or one that is too long.
+    /// Not a message by the framing rules (RFC 6455 sections 5.2 to 5.5), or one that is too long.
     Broken,
     /// Out of memory; a message may be lost.
     NoMemory,
 }
 
-/// Whether a message was framed.
+/// The result of framing a message.
 #[derive(Clone, Copy, Debug, PartialEq, Eq)]
 pub enum FrameOut {
     /// It waits for the link.
@@ -44,9 +44,9 @@ pub enum LastResult {
     Text,
     /// Nothing came.
     Idle,
-    /// The peer closed.
+    /// The peer closed the connection.
     Closed,
-    /// What came is no WebSocket.
+    /// What came isn't WebSocket.
     Broken,
     /// Out of memory.
     NoMemory,
@@ -54,21 +54,21 @@ pub enum LastResult {
 
 /// Messages of one peer in frames (RFC 6455 section 5).
 pub trait Frames {
-    /// What was handed over to the crate that frames, what was fed and isn't handed over, how much of what was handed
-    /// over isn't read, what waits for the link, the bodies that came and those that were sent, the last result, the
-    /// counts of results Refused and Broken, and what each read gave.
+    /// What was handed over to the crate that does the framing, what was fed and isn't handed over, how much of what
+    /// was handed over isn't read, what waits for the link, the bodies that came and those that were sent, the last
+    /// result, the counts of the results `Refused` and `Broken`, and what each read gave.
     ghost seen: { Self → FramesView };
 
-    /// Takes bytes that came. Refused only when out of memory, and then nothing changes.
+    /// Takes bytes that came. Fails only when out of memory, and then nothing changes.
     fn feed(&mut self, b: &[u8]) -> Result<(), NoMemory>
         ensures { AfterFeed result b.now (seen self.old) (seen self.new) };
 
-    /// The next message; pings and pongs are passed over. What the rules of frames answer by themselves, as a pong (RFC
-    /// 6455 section 5.5.3), waits for the link then.
+    /// The next message; pings and pongs are skipped. What the framing rules answer by themselves, such as a pong (RFC
+    /// 6455 section 5.5.3), then waits for the link.
     fn next(&mut self) -> FrameIn
         ensures { AfterNext result (seen self.old) (seen self.new) };
 
-    /// Frames one binary message (RFC 6455 section 5.2); it waits for the link then.
+    /// Frames one binary message (RFC 6455 section 5.2); it then waits for the link.
     fn send(&mut self, b: &[u8]) -> FrameOut
         ensures { AfterSend result b.now (seen self.old) (seen self.new) };
 
@@ -76,7 +76,7 @@ pub trait Frames {
     fn waiting(&self) -> &[u8]
         ensures { result.now ≡ (seen self.now).waiting };
 
-    /// The link took the first `n` bytes of what waits. Takes no memory.
+    /// Removes the first `n` bytes of what waits, which the link took. Takes no memory.
     fn taken(&mut self, n: usize)
         requires { n ≤ length (seen self.old).waiting }
         ensures { seen self.new ≡ record (seen self.old) { waiting = drop n (seen self.old).waiting } };

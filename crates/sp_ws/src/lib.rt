@@ -1,13 +1,13 @@
 //! The wire over a WebSocket whose opening is done (RFC 6455 sections 5 and 6): each SP message is one binary message.
 //!
-//! `Frames` is the seam to the crate that frames messages. The one real implementation, `MemorySocket`, holds a
+//! `Frames` is the interface to the crate that does the framing. The one real implementation, `MemorySocket`, holds a
 //! `tungstenite` socket over a stream in memory: what the link gives is fed to it, and what it writes is kept until the
 //! link takes it. Of that crate's own state nothing is known between two calls, since a change of its stream
-//! (`get_mut`) has no clause. So what is promised is promised call by call, by logs of what its reads gave and of what
-//! was sent.
+//! (`get_mut`) has no clause. So the promises are made call by call, by logs of what its reads gave and of what was
+//! sent.
 //!
-//! `WsWire` owns the link and the frames. A message that was put stays in hand until `room` or `flush` sends it, each
-//! once and in order. Then the places at which their frames end are kept, so that it is known how many are not wholly
+//! `WsWire` owns the link and the frames. A message that was put is kept until `room` or `flush` sends it, each once
+//! and in order. Then the places at which their frames end are kept, so that it is known how many are not wholly
 //! written.
 #![tactic(auto)]
 

@@ -1,5 +1,5 @@
-//! What the reads of a socket gave, as contracts see them. They take no memory, and nothing is done with them when a
-//! program runs.
+//! What the reads of a socket gave, as contracts see them. They take no memory, and the compiled program does nothing
+//! with them.
 ghost use Rattle.std.specs.Prelude.{◌≡◌, ◌++◌, ◌∷◌, List, [], Result};
 ghost use Rattle.std.specs.Borrow.{ftrue};
 ghost use Rattle.tungstenite.specs.declared.error.Error.{Error};
@@ -37,7 +37,7 @@ impl ReadLog {
         ReadLog {}
     }
 
-    /// One read more.
+    /// One more read.
     pub(crate) fn and(&self, _given: &Given<'_>) -> ReadLog
         ensures { result.all ≡ self.now.all ++ _given.now.returned.now ∷ [] }
     {

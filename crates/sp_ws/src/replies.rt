@@ -1,12 +1,12 @@
-//! How many replies wait that the rules of frames give by themselves.
+//! How many replies wait that the framing rules give by themselves.
 
-/// How many bytes of replies may wait until no more are put behind them.
+/// Once this many bytes of replies wait, no more are added.
 const MOST_BYTES: usize = 16_384;
 
 /// The replies among what waits for a link.
 #[derive(Clone, Copy, Debug, PartialEq, Eq)]
 pub(crate) struct Replies {
-    /// How many bytes of them were put there since none waited.
+    /// How many bytes of them were added since none waited.
     bytes: usize,
     /// Where the last one ends in what waits; 0 where none waits.
     end: usize,
@@ -18,12 +18,12 @@ impl Replies {
         Replies { bytes: 0, end: 0 }
     }
 
-    /// Whether no more are to wait.
+    /// Returns whether no more replies are to be added.
     pub(crate) fn are_many(self) -> bool {
         self.bytes >= MOST_BYTES
     }
 
-    /// So many bytes more, which end there.
+    /// The replies with `bytes` more, which end at `end`.
     pub(crate) fn and(self, bytes: usize, end: usize) -> Replies {
         Replies {
             bytes: self.bytes.saturating_add(bytes),
@@ -31,7 +31,7 @@ impl Replies {
         }
     }
 
-    /// After the link took the first `n` bytes of what waits.
+    /// The replies after the link took the first `n` bytes of what waits.
     pub(crate) fn after(self, n: usize) -> Replies {
         let end = self.end.saturating_sub(n);
         if end == 0 {

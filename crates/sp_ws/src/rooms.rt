@@ -1,10 +1,10 @@
-//! How much room for bytes is kept that no byte takes.
+//! How much unused room for bytes is kept.
 ghost use Rattle.std.specs.Prelude.{◌≡◌};
 
-/// How many bytes of room are kept at most where no byte is.
+/// The maximum capacity of an empty buffer that is kept, in bytes.
 pub(crate) const KEPT_ROOM: usize = 1_024;
 
-/// Lets go of the room where no byte is and it is more than is kept. Takes no memory.
+/// Frees the room of an empty buffer, where it is more than is kept. Takes no memory.
 pub(crate) fn give_back(bytes: &mut Vec<u8>)
     ensures { bytes.new.items ≡ bytes.old.items }
 {

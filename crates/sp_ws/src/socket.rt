@@ -1,4 +1,4 @@
-//! The one real implementation of `Frames`.
+//! The only real implementation of `Frames`.
 ghost use Rattle.std.specs.Prelude.{◌≡◌, ◌≤◌, ◌++◌, ℕ, List, [], length, drop};
 ghost use Rattle.sp_ws.specs.Sides.{role_of};
 ghost use Rattle.sp_ws.specs.Views.{fresh_frames, HasLimits};
@@ -13,7 +13,7 @@ use sp_base::NoMemory;
 use std::alloc::Global;
 use std::marker::Model;
 
-/// A `tungstenite` socket over memory, and what waits for the link beside it.
+/// A `tungstenite` socket over memory, with what waits for the link.
 #[derive(Drop)]
 pub struct MemorySocket {
     stream: Stream,
@@ -81,7 +81,7 @@ impl MemorySocket {
         }
     }
 
-    /// How many bytes of room its buffers have, but for those of the `tungstenite` socket.
+    /// The capacity of its buffers, in bytes, except those of the `tungstenite` socket.
     pub(crate) fn capacity(&self) -> usize {
         self.stream.capacity()
     }

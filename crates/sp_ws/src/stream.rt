@@ -1,4 +1,4 @@
-//! A `tungstenite` socket over memory, with what goes into it and what came out of it beside.
+//! A `tungstenite` socket over memory, with what goes into it and what came out of it.
 ghost use Rattle.std.specs.Prelude.{◌≡◌, ◌≤◌, ◌++◌, ℕ, List, [], length, drop, IsTrue, IfOk, true};
 ghost use Rattle.std.specs.Prelude.{◌∷◌};
 ghost use Rattle.sp_ws.specs.Streams.{remaining_in, handed_in, unread_in, unread_of, Fetched, Loaded, ReadTo, IsNamed, Noted, NextIs, SendIs, KeptUnread};
@@ -23,10 +23,10 @@ use websocket::error::ProtocolError;
 /// How many bytes the socket asks for in one read of its stream.
 const READ_BYTES: usize = 4_096;
 
-/// How many bytes may have been handed over at once, or in one frame, to a socket that is kept.
+/// The maximum number of bytes, handed over at once or in one frame, of a socket that is kept.
 const USUAL_ROOM: u64 = 131_072;
 
-/// How many reads in a row bring nothing before more of the room is let go.
+/// After this many reads in a row that bring nothing, more of the room is freed.
 const QUIET_READS: u32 = 64;
 
 /// The socket; what was fed and not handed over to it; and what it wrote.
@@ -37,14 +37,14 @@ pub(crate) struct Stream {
     /// The side of the connection, and where a client's next masking keys start from.
     pub role: Role,
     pub seed: u64,
-    /// How many bytes a message or a frame has at most.
+    /// The maximum length of a message or a frame, in bytes.
     pub max: u32,
     /// What reads.
     pub socket: WebSocket<Memory, Keys>,
     pub fed: Vec<u8>,
     /// What was handed over to it. It takes no memory.
     pub handed: Log,
-    /// Where that is cut into frames.
+    /// How that is cut into frames.
     pub cuts: Cuts,
     /// How many reads in a row found no message since something was fed.
     pub quiet: u32,
@@ -65,7 +65,7 @@ fn copied(alloc: Global, b: &[u8]) -> FrameIn
     }
 }
 
-// What a failed read is called, where the stream is empty or not.
+// The name of a failed read, where the stream is empty or not.
 fn name_failure(error: Error, is_empty: bool) -> FrameIn
     ensures { Fails result error is_empty }
 {
@@ -94,8 +94,8 @@ fn name_failure(error: Error, is_empty: bool) -> FrameIn
     }
 }
 
-// The frame of one binary message. Each message has a socket of its own, of which all is known: no other bytes wait in
-// it, and it was not closed. Its buffer has no limit, so it is never full.
+// The frame of one binary message. Each message has a socket of its own, whose whole state is known: no other bytes
+// wait in it, and it was not closed. Its buffer has no limit, so it is never full.
 fn framed(alloc: Global, role: Role, seed: u64, b: &[u8]) -> Result<Vec<u8>, NoMemory>
     ensures { IfOk result (λ v. IsFrame role v.items b.now) }
 {
@@ -117,7 +117,7 @@ fn framed(alloc: Global, role: Role, seed: u64, b: &[u8]) -> Result<Vec<u8>, NoM
     }
 }
 
-// What a read's result is called, if it isn't passed over.
+// The name of a read's result, if the message isn't skipped.
 fn name(alloc: Global, returned: Result<Message, Error>, is_empty: bool) -> Option<FrameIn>
     ensures { IsNamed result returned is_empty }
 {
@@ -131,7 +131,7 @@ fn name(alloc: Global, returned: Result<Message, Error>, is_empty: bool) -> Opti
 }
 
 // A socket that has read nothing, over an empty stream. Messages and frames have at most `max` bytes. Its keys, which
-// mask what the rules of frames answer by themselves, are none of those that start from the seed.
+// mask what the framing rules answer by themselves, are none of those that start from the seed.
 fn new_socket(alloc: Global, role: Role, seed: u64, max: u32) -> WebSocket<Memory, Keys>
     ensures unread { unread_in result.stream ≡ [] }
     ensures limits { HasLimits max result.conn.config }
@@ -176,8 +176,7 @@ impl Stream {
         }
     }
 
-    /// Hands what was fed over to the socket. A change of the socket's stream has no clause, so what it came to is
-    /// looked at.
+    /// Hands over to the socket what was fed. A change of the socket's stream has no clause, so the result is checked.
     fn load(&mut self) -> bool
         ensures loaded { Loaded result self.old self.new }
         ensures reads { self.new.reads ≡ self.old.reads }
@@ -209,9 +208,9 @@ impl Stream {
         flushed && self.socket.get_ref().unread() == unread
     }
 
-    /// Puts what the socket wrote behind what waits; the first `late` bytes of it were written before this call. Where
-    /// many replies wait, those of this call stay in the socket's stream, in place of those before: the last pong may
-    /// stand for all (RFC 6455 section 5.5.3).
+    /// Puts what the socket wrote after what waits; the first `late` bytes of it were written before this call. Where
+    /// many replies wait, those of this call stay in the socket's stream, in place of the earlier ones: the last pong
+    /// may answer all (RFC 6455 section 5.5.3).
     fn fetch(&mut self, late: usize) -> bool
         ensures fetched { Fetched result self.old self.new }
         ensures reads { self.new.reads ≡ self.old.reads }
@@ -246,7 +245,7 @@ impl Stream {
         memory.unread() == unread && memory.out.len() == left
     }
 
-    // How many bytes may have been handed over at once, or in one frame, to a socket that is kept.
+    // The maximum number of bytes, handed over at once or in one frame, of a socket that is kept.
     fn kept_room(&self) -> u64 {
         if self.quiet >= QUIET_READS {
             KEPT_ROOM as u64
@@ -255,8 +254,8 @@ impl Stream {
         }
     }
 
-    /// Takes a new socket in place of one whose buffers much has taken. It is open and keeps nothing then: all that it
-    /// was given were whole frames of whole messages, which it read.
+    /// Replaces a socket whose buffers have grown large by a new one. The new one is open and keeps nothing: all that
+    /// the old one was given were whole frames of whole messages, which it read.
     fn renew(&mut self)
         ensures kept { KeptUnread true self.old self.new }
         ensures out { self.new.out ≡ self.old.out }
@@ -276,7 +275,7 @@ impl Stream {
         }
     }
 
-    /// Lets go of buffers that a long message took, and of those of a link that brought nothing for long. No message is
+    /// Frees the buffers that a long message took, and those of a link that brought nothing for long. No message is
     /// left of what was fed.
     fn give_back_room(&mut self)
         ensures fed { self.new.fed.items ≡ self.old.fed.items }
@@ -293,7 +292,7 @@ impl Stream {
         self.renew();
     }
 
-    /// How many bytes of room its own buffers have. Those of the socket show nothing of theirs.
+    /// The capacity of its own buffers, in bytes. The socket doesn't show that of its buffers.
     pub(crate) fn capacity(&self) -> usize {
         let memory = self.socket.get_ref();
         let came = self.fed.capacity().saturating_add(memory.fed.capacity());
@@ -301,7 +300,7 @@ impl Stream {
         came.saturating_add(goes)
     }
 
-    /// One read of the socket, which is noted. No other function reads it.
+    /// One read of the socket, which is logged. No other function reads it.
     fn read_once(&mut self) -> Result<Message, Error>
         ensures read { Reads remaining_in self.old.socket self.new.socket result }
         ensures noted { self.new.reads.all ≡ self.old.reads.all ++ result ∷ [] }
@@ -317,7 +316,7 @@ impl Stream {
         returned
     }
 
-    /// What the socket's next message is, past pings and pongs.
+    /// The socket's next message, past pings and pongs.
     fn read_next(&mut self) -> FrameIn
         ensures read { ReadTo result self.old.socket self.new.socket }
         ensures noted { Noted result self.old self.new }
@@ -355,7 +354,7 @@ impl Stream {
         returned
     }
 
-    /// Frames one binary message. Refused only when out of memory.
+    /// Frames one binary message. Fails only when out of memory.
     pub(crate) fn send(&mut self, b: &[u8]) -> Result<(), NoMemory>
         ensures { SendIs result b.now self.old self.new }
     {

@@ -6,12 +6,12 @@ use sp_base::NoMemory;
 use std::alloc::Global;
 use std::marker::Model;
 
-/// Bytes that wait for the link, behind those that it took. The rest moves to the front once it is no longer than what
-/// was taken, so that a byte moves less than once on the average.
+/// Bytes that wait for the link, after those that it took. The rest moves to the front once it is no longer than what
+/// was taken, so that a byte moves less than once on average.
 #[derive(Drop)]
 pub(crate) struct Waiting {
     bytes: Vec<u8>,
-    /// How many of the first ones the link took.
+    /// The number of leading bytes that the link took.
     taken: usize,
 }
 
@@ -26,7 +26,7 @@ impl Model for Waiting {
 }
 
 impl Waiting {
-    /// None.
+    /// No bytes.
     pub(crate) fn new(alloc: Global) -> Waiting
         ensures { result ≡ [] }
     {
@@ -36,26 +36,26 @@ impl Waiting {
         }
     }
 
-    /// All that wait.
+    /// All bytes that wait.
     pub(crate) fn as_slice(&self) -> &[u8]
         ensures { result.now ≡ self.now }
     {
         &self.bytes[self.taken..]
     }
 
-    /// How many wait.
+    /// The number of bytes that wait.
     pub(crate) fn len(&self) -> usize
         ensures { result ≡ length self.now }
     {
         self.bytes.len() - self.taken
     }
 
-    /// How many bytes it has room for.
+    /// The capacity, in bytes.
     pub(crate) fn capacity(&self) -> usize {
         self.bytes.capacity()
     }
 
-    /// These wait behind the others.
+    /// Appends `b` to what waits.
     pub(crate) fn extend(&mut self, b: &[u8]) -> Result<(), NoMemory>
         ensures ok { OnOk result (self.new ≡ self.old ++ b.now) }
         ensures err { OnErr result (self.new ≡ self.old) }
@@ -64,7 +64,7 @@ impl Waiting {
         Ok(())
     }
 
-    /// The link took the first `n`. Takes no memory.
+    /// Removes the first `n` bytes, which the link took. Takes no memory.
     pub(crate) fn pass(&mut self, n: usize)
         requires { n ≤ length self.old }
         ensures { self.new ≡ drop n self.old }

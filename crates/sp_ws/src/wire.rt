@@ -33,9 +33,9 @@ pub struct WsWire<L: Link> {
     room: Vec<u8>,
     /// The last body that came was not handed on.
     lost: bool,
-    /// The most bytes of a body that is read.
+    /// The maximum length of a body that is read, in bytes.
     max: u32,
-    /// What it shows beside its bytes.
+    /// What it shows besides its bytes.
     marks: WireMarks,
     /// How often the link had had nothing to read or had taken nothing when the wire was made.
     spent: CountsAtStart,
@@ -53,8 +53,8 @@ impl<L: Link> Model for WsWire<L> {
 }
 
 impl<L: Link> WsWire<L> {
-    /// A wire over a link whose opening is done; these bytes came behind the opening's head. A body that is read has at
-    /// most `max` bytes. Refused only when out of memory, and then the link comes back as it was.
+    /// A wire over a link whose opening is done; `rest` is what came after the opening's head. A body that is read has
+    /// at most `max` bytes. Fails only when out of memory, and then the link comes back as it was.
     pub fn new(
         alloc: Global,
         link: L,
@@ -78,7 +78,7 @@ impl<L: Link> WsWire<L> {
         Ok(WsWire::made(alloc, link, frames, outlet, room, max))
     }
 
-    // A new wire over a link that had so often had nothing to read or had taken nothing.
+    // A new wire over a link that, as `spent` says, had had nothing to read or had taken nothing.
     fn made(
         alloc: Global,
         link: L,
@@ -104,14 +104,14 @@ impl<L: Link> WsWire<L> {
         }
     }
 
-    /// Whether it may be pulled, asked for room and flushed.
+    /// Returns whether it may be pulled, asked for room and flushed.
     pub fn is_open(&self) -> bool
         ensures { result ≡ self.now.wire.is_open }
     {
         self.marks.is_open
     }
 
-    /// How many bytes of room its buffers have, but for those of the `tungstenite` socket, which are let go with it.
+    /// The capacity of its buffers, in bytes, except those of the `tungstenite` socket, which are freed with it.
     pub fn capacity(&self) -> usize {
         let came = self.room.capacity().saturating_add(self.frames.capacity());
         came.saturating_add(self.outlet.capacity())

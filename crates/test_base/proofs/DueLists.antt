@@ -1,4 +1,4 @@
--- Calls that are allowed one after another, and slots that stand in a list.
+-- Calls that are allowed one after another, and slots that are in a list.
 use Rattle.std.proofs.Common.{◌≡◌, refl, ap, sym, ◌∙◌, subst, Option, None, Some, List, [], ◌∷◌, ◌++◌, ℕ, ◌+◌, ◌<◌, Bool, true, false, cond, arith, length}
 use Rattle.std.specs.Prelude.{filter, not, ◌==◌, slice_get}
 use Rattle.std.proofs.lemmas.Bool.Decides.{nat_tests}
@@ -8,7 +8,7 @@ use Rattle.aio_expire.specs.declared.due.DueCall.TheVariants.{Remove, Due}
 use Rattle.aio_expire.specs.Buckets.{count_in, after, one_if, list_at, IsListed}
 use Rattle.aio_expire.specs.DueCalls.{AreAllowed, after_call}
 
--- of those that don't pass none passes
+-- no element that failed the test passes it
 pub none_left : {X : Type 0} (p : X → Bool) (xs : List X) → length (filter p (filter (λ x. not (p x)) xs)) ≡ 0
 none_left p [] = refl
 none_left p (x ∷ xs) =
@@ -42,7 +42,7 @@ counted_after slot s (x ∷ xs) h = go (x == slot) h (counted_after slot s xs)
     go true k again = omega (arith, counted_first s xs k)
     go false k again = omega (arith, again k)
 
--- the first of a list stands in it, and so does what follows a slot
+-- the first slot of a list is in it, and so is the one that follows a slot
 pub first_listed : (bucket s : ℕ) (lists : List (List ℕ)) (r : Option ℕ) → bucket < 513 → r ≡ slice_get (list_at bucket lists) 0 → r ≡ Some s → IsListed s lists
 first_listed bucket s lists r l h e = (bucket, l, counted_first s (list_at bucket lists) (sym h ∙ e))
 

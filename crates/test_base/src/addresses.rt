@@ -5,7 +5,7 @@ use std::alloc::Global;
 use std::process::Abort;
 use std::sync::Wait;
 
-// Each line is a text and, behind ` | `, what it is read as.
+// Each line is a text and, after ` | `, what it is read as.
 #[derive(Drop)]
 struct Readings;
 
@@ -87,7 +87,7 @@ fn addresses_of_websocket_are_read(rt: HostRuntime) {
     check_rows(&rt, rt.alloc(), OF_WEBSOCKET);
 }
 
-// Behind the slash 127 letters, and 128.
+// 127 letters after the slash, and 128.
 const LONG_PATHS: &str = "\
 ws://1.2.3.4:80/\
     aaaaaaaaaaaaaaaaaaaaaaaaaaaaaaaaaaaaaaaaaaaaaaaaaaaaaaaaaaaaaaaa\

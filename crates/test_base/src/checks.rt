@@ -1,10 +1,10 @@
-//! What a test asks: it stops where a result is another one. Calls cost less to prove than the macros written out.
+//! The checks of tests, which abort where a result is wrong. Calls cost less to prove than the macros written out.
 ghost use Rattle.std.specs.Prelude.{◌≡◌, Ok, Some};
 
 use std::fmt::Debug;
 use std::process::Abort;
 
-/// What was made.
+/// The value of `returned`. Aborts where it is an error.
 pub fn made<T, E: Debug + Drop>(rt: &impl Abort, returned: Result<T, E>) -> T
     ensures { returned ≡ Ok result }
 {
@@ -14,7 +14,7 @@ pub fn made<T, E: Debug + Drop>(rt: &impl Abort, returned: Result<T, E>) -> T
     }
 }
 
-/// What is there.
+/// The value of `it`. Aborts where it is `None`.
 pub fn some<T>(rt: &impl Abort, it: Option<T>) -> T
     ensures { it ≡ Some result }
 {
@@ -24,17 +24,17 @@ pub fn some<T>(rt: &impl Abort, it: Option<T>) -> T
     }
 }
 
-/// Both are the same.
+/// Aborts where `left` and `right` differ.
 pub fn same<T: PartialEq + Debug + Drop>(rt: &impl Abort, left: T, right: T) {
     assert_eq!(rt; left, right);
 }
 
-/// It holds.
+/// Aborts where `it` is false.
 pub fn holds(rt: &impl Abort, it: bool) {
     assert!(rt; it);
 }
 
-/// Nothing is there.
+/// Aborts where `returned` has a value.
 pub fn is_none<T: Drop>(rt: &impl Abort, returned: Option<T>) {
     assert!(rt; returned.is_none());
 }

@@ -12,11 +12,11 @@ use std::process::Abort;
 /// The last moment.
 const LAST: Tick = Tick(18_446_744_073_709_551_615);
 
-// What calls are drawn from.
+// The state from which random calls are drawn.
 #[derive(Drop)]
 struct Draws {
     value: u64,
-    // The latest moment that was asked for what is due.
+    // The latest moment at which what is due was asked for.
     now: u64,
 }
 
@@ -61,8 +61,8 @@ impl Draws {
         Tick(self.later())
     }
 
-    // Two calls: a slot's operation has a deadline, whether the slot had one or not; or what is due is named, and a slot
-    // has no deadline.
+    // Draws two calls: a slot's operation gets a deadline, whether the slot had one or not; or what is due is named,
+    // and a slot loses its deadline.
     fn step(&mut self) -> [DueCall; 2]
         ensures { (es : List Deadline) → AreAllowed 64 result es }
     {
@@ -76,7 +76,7 @@ impl Draws {
     }
 }
 
-// Drawn calls, and at last one that names all that are left.
+// Random calls, and a last one that names all that are left.
 fn drawn_calls(alloc: Global, seed: u64) -> Result<Vec<DueCall>, NoMemory>
     ensures allowed { IfOk result (λ v. (es : List Deadline) → AreAllowed 64 v.items es) }
     ensures count { IfOk result (λ v. length v.items ≤ 2002) }
@@ -104,7 +104,7 @@ fn named<D: Due, R: Abort>(rt: &R, alloc: Global, d: &mut D, calls: &[DueCall]) 
     names
 }
 
-// The calls give the same names in both forms, more than a hundred.
+// Checks that the calls give the same names in both forms, more than a hundred.
 fn give_the_same<R: Abort>(rt: &R, alloc: Global, seed: u64) {
     let calls = made(rt, drawn_calls(alloc, seed));
     let mut in_wheel = made(rt, Deadlines::new(alloc, 64));

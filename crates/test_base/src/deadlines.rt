@@ -10,7 +10,7 @@ use std::alloc::Global;
 use std::process::Abort;
 use std::sync::Wait;
 
-// Deadlines that a text is played on.
+// The form of deadlines that a text is played on.
 trait Kept: Due {
     // The wheel that they are kept in, if it is one.
     fn wheel(&self) -> Option<&Wheel>;
@@ -28,19 +28,19 @@ impl Kept for ListDeadlines {
     }
 }
 
-// Deadlines of some slots, and a list of those that were due. An operation stands by its slot; its generation is 1.
+// Deadlines of some slots, and a list of those that were due. An operation is written as its slot; its generation is 1.
 //
 // | call | words |
 // |---|---|
 // | the operation has a deadline at this moment | `put 2 10` |
-// | the same of the slot's operation of generation 2 | `again 2 10` |
-// | each slot has a deadline, the last slot at this moment, and each other this much later than the one behind it | `falling 10 3` |
-// | the slot's deadline is taken out, and whether it had one | `remove 2 true` |
-// | what is due at this moment goes to the list | `due 10` |
+// | the same for the slot's operation of generation 2 | `again 2 10` |
+// | each slot has a deadline, the last one at this moment, each other this much later than the next | `falling 10 3` |
+// | the slot's deadline is removed, and whether it had one | `remove 2 true` |
+// | what is due at this moment is added to the list | `due 10` |
 // | the names on the list, how many there are, and how many more it holds | `are []`, `count 0`, `spare 3` |
 // | they are of all slots, from the last one down | `are_all` |
 // | the list is emptied | `clear` |
-// | the slots that stand in this list of the wheel, if it is one, by number | `list 512 [2, 3]` |
+// | the slots in this list of the wheel, if it is one, by number | `list 512 [2, 3]` |
 #[derive(Drop)]
 struct Schedule<D: Kept> {
     deadlines: D,
@@ -75,7 +75,7 @@ impl<D: Kept> Playing for Schedule<D> {
 }
 
 impl<D: Kept> Schedule<D> {
-    // The operation has a deadline, and its slot had none.
+    // Gives the operation a deadline, and returns whether its slot had none.
     fn puts(&mut self, slot: u32, generation: u64, at: u64) -> bool {
         if slot >= self.slots || self.deadlines.remove(slot) {
             return false;
@@ -84,7 +84,7 @@ impl<D: Kept> Schedule<D> {
         true
     }
 
-    // Each slot has one, the last one at this moment and each other later than the one behind it.
+    // Gives each slot a deadline, the last one at this moment and each other `step` later than the next.
     fn puts_all(&mut self, at: u64, step: u32) -> bool {
         let slots = self.slots;
         for behind in 0..slots {
@@ -96,7 +96,7 @@ impl<D: Kept> Schedule<D> {
         true
     }
 
-    // The list had room for all.
+    // Adds what is due to the list, and returns whether the list had room for all.
     fn is_due(&mut self, now: u64) -> bool {
         if self.names.spare() < self.slots as usize {
             return false;
@@ -105,13 +105,13 @@ impl<D: Kept> Schedule<D> {
         true
     }
 
-    // All slots are named, from the last one down.
+    // Returns whether all slots are named, from the last one down.
     fn are_all(&self) -> bool {
         let slots = self.names.as_slice().iter().map(|op| op.slot);
         slots.eq((0..self.slots).rev())
     }
 
-    // The list of the wheel has the slots that the line says.
+    // Returns whether this list of the wheel has the slots that the line says.
     fn has_list(&self, alloc: Global, bucket: u32, line: &mut PlayedLine<'_>) -> bool {
         if bucket >= BUCKETS {
             return false;
@@ -143,7 +143,7 @@ fn slots_of(alloc: Global, wheel: &Wheel, bucket: u32) -> Result<Vec<u32>, NoMem
     Ok(slots)
 }
 
-// Both forms of deadlines of some slots play, each with a list for as many names as `room` says.
+// Plays the text on both forms of deadlines of `slots` slots, each with a list for `room` names.
 fn deadlines_play<R: Wait + Abort>(rt: &R, alloc: Global, slots: u32, room: u32, text: &str)
     requires { (0 < slots) × (slots ≤ 4096) }
 {

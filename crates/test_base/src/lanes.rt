@@ -1,4 +1,4 @@
-//! Worked runs of lanes, of the wire over two of them and of names within the process.
+//! Examples of lanes, of the wire over two of them and of names within the process.
 ghost use Rattle.std.specs.Prelude.{◌≡◌, true, false};
 ghost use Rattle.sp_lane.specs.Lanes.{has_end};
 
@@ -28,7 +28,7 @@ fn take_one<R: Wait>(rt: &R, mut output: LaneOut) -> LaneOut
     output
 }
 
-// Both ends go to threads of their own.
+// Both ends can go to threads of their own.
 #[test]
 fn ends_go_to_threads(rt: HostRuntime) {
     let (input, output) = made(&rt, lane(rt.alloc(), 1));
@@ -165,7 +165,7 @@ fn names_play<R: Wait + Abort>(rt: &R, alloc: Global, text: &str) {
 }
 
 impl Names {
-    // A call that names a role.
+    // Returns whether a call that names a role is right.
     fn is_named(&mut self, alloc: Global, call: &str, line: &mut PlayedLine<'_>) -> bool {
         let name = line.word().as_bytes();
         let Some(role) = role_of(line.word()) else {
@@ -179,7 +179,7 @@ impl Names {
         line.says(alloc, returned)
     }
 
-    // Dials, and keeps the half.
+    // Dials, and keeps the half that it gets.
     fn dials(&mut self, name: &[u8], role: Role) -> Result<(), InprocError> {
         match self.names.dial(name, role) {
             Ok(wire) => {
@@ -191,7 +191,7 @@ impl Names {
     }
 }
 
-// A call of a half.
+// Returns whether a call of a half is right.
 fn is_so<R: Wait>(
     rt: &R,
     alloc: Global,
@@ -212,7 +212,7 @@ fn is_so<R: Wait>(
     }
 }
 
-// What was pulled is what the line says.
+// Returns whether what was pulled is what the line says.
 fn pulls(pulled: WireIn, call: &str, line: &mut PlayedLine<'_>) -> bool {
     match pulled {
         WireIn::Message(m) => {
@@ -224,7 +224,7 @@ fn pulls(pulled: WireIn, call: &str, line: &mut PlayedLine<'_>) -> bool {
     }
 }
 
-// A message of a number as its header, and of a body.
+// A message with a number as its header, and a body.
 fn message(alloc: Global, line: &mut PlayedLine<'_>) -> Option<Message> {
     let number = line.small();
     let mut m = Message::from_body(alloc, line.bytes()).ok()?;
@@ -232,7 +232,7 @@ fn message(alloc: Global, line: &mut PlayedLine<'_>) -> Option<Message> {
     Some(m)
 }
 
-// Puts a message on a wire that has room.
+// Puts a message on the wire, and returns whether it had room.
 fn sends<R: Wait>(rt: &R, alloc: Global, wire: &mut LaneWire, line: &mut PlayedLine<'_>) -> bool {
     let Some(m) = message(alloc, line) else {
         return false;

@@ -1,4 +1,4 @@
-//! Tests of what all else stands on: addresses, roles, numbers, bytes, messages, the outside in memory, operation
+//! Tests of what all else is built on: addresses, roles, numbers, bytes, messages, the outside in memory, operation
 //! words, deadlines, pending operations, the turn lock and its uses, and lanes within the process.
 #![tactic(auto)]
 

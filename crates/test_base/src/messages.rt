@@ -22,14 +22,14 @@ fn a_message_is_96_bytes_large(rt: HostRuntime) {
     same(&rt, size_of::<Message>(), 96);
 }
 
-// A message and its copy, where they are there.
+// A message and its copy, each where there is one.
 //
 // | call | words |
 // |---|---|
 // | the message is made with this body | `new 'abc` |
 // | the copy is made of the message | `copies` |
 // | the message is dropped | `drops` |
-// | so many bytes of a body are taken away, at the beginning and at the end | `message trim 2`, `copy chop 1` |
+// | bytes of a body are removed, at the beginning and at the end | `message trim 2`, `copy chop 1` |
 // | a body gets more bytes, at the end and at the beginning | `message append 'abc`, `copy insert 'abc` |
 // | a header gets a number | `message number 1` |
 // | a header moves to the beginning of its body | `message join` |
@@ -69,7 +69,7 @@ fn is_so(message: &mut Option<Message>, line: &mut PlayedLine<'_>) -> bool {
     }
 }
 
-// A call that takes a number or bytes.
+// Returns whether a call that takes a number or bytes is right.
 fn takes(m: &mut Message, call: &str, line: &mut PlayedLine<'_>) -> bool {
     match call {
         "trim" => m.trim(line.small() as usize).is_ok(),

@@ -1,4 +1,4 @@
-//! Words of operations: ends that race, and names that are stale.
+//! Words of operations: racing ends, and stale names.
 ghost use Rattle.std.specs.Prelude.{◌≡◌, ◌<◌, ◌≤◌, true, false, IfSome};
 ghost use Rattle.aio_word.specs.Word.{is_core_end};
 ghost use Rattle.aio_word.specs.Results.{HasSeen, IsName};
@@ -13,7 +13,7 @@ use std::thread::{Threads, join};
 
 const RACES: u32 = 10_000;
 
-// The core's seat, the name of its last operation, and whether the core has seen that one end.
+// The core's seat, the name of its last operation, and whether the core has seen that operation end.
 #[derive(Drop)]
 struct CoreOperation {
     seat: CoreSeat,
@@ -34,7 +34,7 @@ fn core_end(word: &str) -> Option<Phase>
     }
 }
 
-// The core begins the next operation of the slot.
+// Begins the slot's next operation, and returns whether its name is what the line says.
 fn begins(words: &Words, alloc: Global, core: &mut CoreOperation, line: &mut PlayedLine<'_>) -> bool
     requires own { core.old.seat.words ≡ words.now.id }
     requires name { IsName core.old.seat.view words.now.slots core.old.op }
@@ -56,7 +56,7 @@ fn begins(words: &Words, alloc: Global, core: &mut CoreOperation, line: &mut Pla
     }
 }
 
-// The core looks at its operation.
+// Has the core look at its operation, and returns whether it sees what the line says.
 fn looks(words: &Words, alloc: Global, core: &mut CoreOperation, line: &mut PlayedLine<'_>) -> bool
     requires own { core.old.seat.words ≡ words.now.id }
     requires name { IsName core.old.seat.view words.now.slots core.old.op }
@@ -69,7 +69,7 @@ fn looks(words: &Words, alloc: Global, core: &mut CoreOperation, line: &mut Play
     line.says(alloc, look)
 }
 
-// The core decides its operation.
+// Has the core decide its operation, and returns whether the result is what the line says.
 fn decides(
     words: &Words,
     alloc: Global,
@@ -91,7 +91,7 @@ fn decides(
     line.says(alloc, decided)
 }
 
-// The core finds what this caller read of its operation.
+// Returns whether the core finds what this caller read of its operation.
 fn finds(
     words: &Words,
     alloc: Global,
@@ -110,7 +110,7 @@ fn finds(
     line.says(alloc, look)
 }
 
-// A caller's call.
+// Makes a caller's call, and returns whether the result is what the line says.
 fn races(
     words: &Words,
     alloc: Global,
@@ -133,7 +133,7 @@ fn races(
     }
 }
 
-// A call of these words.
+// Makes a call on these words, and returns whether the result is what the line says.
 fn is_so(
     words: &Words,
     alloc: Global,
@@ -165,7 +165,7 @@ fn is_so(
     }
 }
 
-// The value that the line names, of two of the same words.
+// The one of two values of the same words that the line names.
 fn value_of<'a>(one: &'a Words, two: &'a Words, line: &mut PlayedLine<'_>) -> &'a Words
     requires { two.now ≡ one.now }
     ensures { result.now ≡ one.now }
@@ -214,7 +214,7 @@ fn goes_on(
     two.join(&mut core.seat, second);
 }
 
-// New words of so many slots and of two callers play the text, and a second value of them does. The first operation has
+// Plays the text on new words of `slots` slots and two callers, and on a second value of them. The first operation has
 // begun in slot 0. A line begins with the value that is called, `one` or `two`:
 //
 // | call | words |
@@ -224,7 +224,7 @@ fn goes_on(
 // | the core looks at it, and decides it | `one look Look { phase: Pending, by: 0 }`, `one decide Won Mine` |
 // | the core finds what the first caller read of it | `one found Look { phase: Cancelled, by: 2 }` |
 // | a caller cancels an operation, by its slot and generation | `one first cancel 0 1 Won` |
-// | a caller lets it expire, and polls it | `two second expire 0 1 Stale`, `two first poll 0 1 Pending` |
+// | a caller times it out, and polls it | `two second expire 0 1 Stale`, `two first poll 0 1 Pending` |
 fn operations_play(rt: &impl Abort, alloc: Global, slots: u32, text: &str)
     requires { (0 < slots) × (slots ≤ 4096) }
 {
@@ -325,7 +325,7 @@ fn cancels_it(words: &Words, mut seat: CallSeat, op: OpName) -> (CallSeat, bool)
     (seat, won)
 }
 
-// An operation begins. One thread decides it while another cancels it.
+// Begins an operation. One thread decides it while another cancels it.
 fn race<R: Threads + Sync + Abort>(
     rt: &R,
     words: &Words,

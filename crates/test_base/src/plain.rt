@@ -1,4 +1,4 @@
-//! Numbers of roles, the generator, bytes, greetings, and the outside in memory: files, links and nets.
+//! Numbers of roles, the generator, bytes, greetings, and the system in memory: files, links and nets.
 ghost use Rattle.std.specs.Prelude.{◌≡◌, true};
 ghost use Rattle.sp_base.specs.Addresses.{is_dialable};
 
@@ -10,7 +10,7 @@ use sp_tcp::Greeting;
 use std::alloc::Global;
 use std::sync::Wait;
 
-// Each line is a number with what it stands for:
+// Each line is a number with its meaning:
 //
 // | row | what it says |
 // |---|---|
@@ -123,7 +123,7 @@ fn greetings_of_all_roles(rt: HostRuntime) {
     plays(&rt, rt.alloc(), &mut Roles, GREETINGS);
 }
 
-// Reads once, and says what came: the first byte, or a mark.
+// Reads once, and returns what came: the first byte, or a mark.
 fn read_byte<L: Link>(link: &mut L) -> u8
     requires { (L.seen link.old).is_open ≡ true }
     ensures { (L.seen link.new).is_open ≡ true }
@@ -137,7 +137,7 @@ fn read_byte<L: Link>(link: &mut L) -> u8
     }
 }
 
-// What each of eight reads of a link gives, with a write of three bytes before the sixth.
+// The results of eight reads of a link, with a write of three bytes before the sixth.
 fn reads_of<L: Link>(link: &mut L) -> [u8; 8]
     requires { (L.seen link.old).is_open ≡ true }
 {
@@ -185,7 +185,7 @@ fn a_long_list_of_links_that_came_back_is_let_go(rt: HostRuntime) {
     drop(came_back);
 }
 
-// Dials twice: whether the first was a fault, and the second a link.
+// Dials twice, and returns whether the first dial failed and the second gave a link.
 fn dials<N: Net>(net: &mut N, addr: &Addr) -> bool
     requires { is_dialable addr.now ≡ true }
 {

@@ -1,5 +1,5 @@
-//! Texts that are played. Each line is a call, with what it returns. Words stand between spaces; a blank line says
-//! nothing. A line that is no call, a number that is too large and a word that is left over are wrong.
+//! Texts that are played. Each line is a call, with what it returns. Words are separated by spaces; a blank line is
+//! skipped. A line that isn't a call, a number that is too large and a leftover word are wrong.
 use std::alloc::Global;
 use std::fmt::Debug;
 use std::process::Abort;
@@ -7,11 +7,11 @@ use std::sync::Wait;
 
 /// What a text is played on.
 pub trait Playing {
-    /// The line is a call, which returns what the line says.
+    /// Makes the line's call, and returns whether the result is what the line says.
     fn is_right<R: Wait>(&mut self, rt: &R, alloc: Global, line: &mut PlayedLine<'_>) -> bool;
 }
 
-/// Plays the text, and stops at the first line that is wrong.
+/// Plays the text, and aborts at the first line that is wrong.
 pub fn plays<R: Wait + Abort, P: Playing>(rt: &R, alloc: Global, player: &mut P, text: &str) {
     let mut number = 0usize;
     for line in text.lines() {
@@ -23,8 +23,8 @@ pub fn plays<R: Wait + Abort, P: Playing>(rt: &R, alloc: Global, player: &mut P,
     }
 }
 
-/// A line that is read word by word. A word that is missing, or isn't what is asked for, makes the line wrong, and 0 or
-/// nothing stands in its place.
+/// A line that is read word by word. A word that is missing, or isn't what is asked for, makes the line wrong, and
+/// reads as 0 or nothing.
 #[derive(Drop)]
 pub struct PlayedLine<'a> {
     rest: &'a str,
@@ -32,7 +32,7 @@ pub struct PlayedLine<'a> {
 }
 
 impl<'a> PlayedLine<'a> {
-    /// A line of which nothing was read.
+    /// A line from its start.
     pub fn new(text: &'a str) -> PlayedLine<'a> {
         PlayedLine {
             rest: text,
@@ -45,12 +45,12 @@ impl<'a> PlayedLine<'a> {
         self.is_wrong = true;
     }
 
-    /// Whether nothing stands on it.
+    /// Returns whether the line is blank.
     pub fn is_blank(&self) -> bool {
         self.rest.trim().is_empty()
     }
 
-    /// The next word; it is empty where there is none.
+    /// The next word; it is empty where none is left.
     pub fn word(&mut self) -> &'a str {
         let text = self.rest.trim_start();
         match text.split_once(' ') {
@@ -76,7 +76,7 @@ impl<'a> PlayedLine<'a> {
         }
     }
 
-    /// The same of a smaller number.
+    /// The next word as a smaller number.
     pub fn small(&mut self) -> u32 {
         match u32::try_from(self.number()) {
             Ok(number) => number,
@@ -87,7 +87,7 @@ impl<'a> PlayedLine<'a> {
         }
     }
 
-    /// The bytes of the next word behind its apostrophe: `'abc`, `'` for none.
+    /// The bytes of the next word after its apostrophe: `'abc`, `'` for none.
     pub fn bytes(&mut self) -> &'a [u8] {
         match self.word().strip_prefix('\'') {
             Some(text) => text.as_bytes(),
@@ -98,14 +98,14 @@ impl<'a> PlayedLine<'a> {
         }
     }
 
-    /// What was not read, to its end.
+    /// The rest of the line.
     pub fn rest(&mut self) -> &'a str {
         let rest = self.rest;
         self.rest = "";
         rest
     }
 
-    /// The rest of the line is this, as `Debug` writes it.
+    /// Returns whether the rest of the line is `it`, as `Debug` writes it.
     pub fn says<T: Debug + Drop>(&mut self, alloc: Global, it: T) -> bool {
         let rest = self.rest();
         match format!(in alloc; "{it:?}") {
@@ -114,7 +114,7 @@ impl<'a> PlayedLine<'a> {
         }
     }
 
-    /// Every word was read, and each was what was asked for.
+    /// Returns whether every word was read, and each was what was asked for.
     pub fn is_read(&self) -> bool {
         !self.is_wrong && self.is_blank()
     }

@@ -1,4 +1,4 @@
-//! Turns of a lock: passes, threads that take turns, and what the end gives back.
+//! Turns of a lock: passes, threads that take turns, and what the end returns.
 ghost use Rattle.std.specs.Prelude.{◌≡◌, ◌≤◌, ◌^◌, ◌-◌, min, length, [], Some};
 ghost use Rattle.turn_lock.specs.declared.turn.Turn.{Turn};
 ghost use Rattle.turn_lock.specs.Passes.{IsReady, OwnTurn, new_list};
@@ -11,7 +11,7 @@ use std::sync::Wait;
 use std::thread::join;
 use turn_lock::{Offers, PassList, Picks, Stands, TurnLock, TurnPass};
 
-// How many turns were taken, up to the greatest number. It must be spent.
+// The number of turns that were taken, up to the greatest number. It must be spent.
 struct Count(u64);
 
 impl Stands for Count {
@@ -24,7 +24,7 @@ impl Stands for Count {
     ghost label = { λ _. tt };
 }
 
-// Takes a turn that it names.
+// Takes a turn, and names it in the contract.
 fn take_turn<R: Wait>(rt: &R, lock: &TurnLock<Count>, mut pass: TurnPass<Count>) -> TurnPass<Count>
     requires { IsReady lock.now pass }
     ensures ready { IsReady lock.now result }
@@ -36,7 +36,7 @@ fn take_turn<R: Wait>(rt: &R, lock: &TurnLock<Count>, mut pass: TurnPass<Count>)
     pass
 }
 
-// Takes a turn of which it knows no more than that there is one. The pass is inside from enter to leave.
+// Takes a turn about which it knows only that there is one. The pass is inside from `enter` to `leave`.
 fn take_some_turn<R: Wait + Abort>(
     rt: &R,
     lock: &TurnLock<Count>,
@@ -55,7 +55,7 @@ fn take_some_turn<R: Wait + Abort>(
     pass
 }
 
-// The turn of caller 1 that adds nothing.
+// A type of the turn of caller 1 that adds nothing.
 struct FirstTurn;
 
 impl Picks<()> for FirstTurn {
@@ -64,7 +64,7 @@ impl Picks<()> for FirstTurn {
     ghost turn = { record { number = 1; entries = [] } };
 }
 
-// Each turn that adds nothing.
+// A type of every turn that adds nothing.
 struct BareTurns;
 
 impl Offers<()> for BareTurns {
@@ -90,7 +90,7 @@ fn take_first_turn<R: Wait>(
     pass
 }
 
-// Takes a turn of which a type says no more than that it adds nothing.
+// Takes a turn about which a type says only that it adds nothing.
 fn take_bare_turn<R: Wait>(
     rt: &R,
     lock: &TurnLock<Count>,
@@ -110,7 +110,7 @@ fn is_send<T: Send>() {}
 
 fn is_sync<T: Sync>() {}
 
-// A lock is shared by threads, and passes and lists go from thread to thread, wherever the state may go.
+// A lock can be shared by threads, and passes and lists can go from thread to thread, wherever the state may go.
 fn is_shared<S: Stands + Send>() {
     is_sync::<TurnLock<S>>();
     is_send::<TurnLock<S>>();
@@ -123,7 +123,7 @@ fn a_lock_of_what_can_be_sent_is_shared(_rt: HostRuntime) {
     is_shared::<Count>();
 }
 
-// A lock of so many callers, of which none took a turn.
+// A lock of `callers` callers, of which none took a turn.
 fn locked(rt: &impl Abort, alloc: Global, callers: u32) -> (TurnLock<Count>, PassList<Count>)
     requires { (1 ≤ callers) × (callers ≤ 64) }
     ensures { result.1 ≡ new_list result.0 (Some tt) callers }
@@ -135,7 +135,7 @@ fn locked(rt: &impl Abort, alloc: Global, callers: u32) -> (TurnLock<Count>, Pas
     (lock, list)
 }
 
-// Ends the lock, in which so many turns were taken. The number of the pass that stays.
+// Ends the lock, in which `turns` turns were taken, and returns the number of the pass that stays.
 fn ends<R: Wait + Abort>(rt: &R, lock: TurnLock<Count>, list: PassList<Count>, turns: u64) -> u32
     requires lock { list.lock ≡ lock }
     requires all { length list.items ≡ list.callers }

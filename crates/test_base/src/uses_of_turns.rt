@@ -11,7 +11,7 @@ fn two_threads_add_in_turns(rt: HostRuntime) {
     same(&rt, count, 4000);
 }
 
-// Each caller's writes stand in the log once, in the order in which it made them.
+// Each caller's writes are in the log once, in the order in which it made them.
 #[test]
 fn three_threads_write_into_one_register(rt: HostRuntime) {
     let log = made(&rt, write_in_turns(&rt, rt.alloc(), 300, 900));

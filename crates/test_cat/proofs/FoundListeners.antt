@@ -13,7 +13,7 @@ same_number n =
     ap (λ b. is_eq (cond b Less (cond (eqb n n) Equal Greater))) (le-ltb n n (omega arith))
     ∙ ap (λ b. is_eq (cond b Equal Greater)) (eq-eqb n n refl)
 
--- a listener that was added is there
+-- a listener that was added is in the map
 pub is_there : (old new : FinMap nat_cmp Scheme) (n : ℕ) (scheme : Scheme) → new ≡ insert old n scheme → IsSome (get new n)
 is_there old new n scheme e =
     subst IsSome (sym (ap (λ m. get m n) e ∙ get-insert nat_cmp_total old n scheme n ∙ ap (λ b. cond b (Some scheme) (get old n)) (same_number n))) refl

@@ -14,7 +14,7 @@ fn a_request_prints_its_reply(rt: HostRuntime) {
     );
 }
 
-// The second request has the next number, and is sent after the first reply.
+// The second request has the next number, and is sent only after the first reply.
 #[test]
 fn two_requests_have_two_numbers(rt: HostRuntime) {
     runs(
@@ -46,7 +46,7 @@ fn a_request_goes_out_again_where_its_peer_dies(rt: HostRuntime) {
     );
 }
 
-// Of two peers one is asked.
+// Only one of two peers is asked.
 #[test]
 fn a_request_goes_to_one_peer(rt: HostRuntime) {
     runs(
@@ -61,7 +61,7 @@ fn a_request_goes_to_one_peer(rt: HostRuntime) {
     );
 }
 
-// No reply comes; a frame that has no number is malformed, and its pipe goes down; and nobody is there to ask.
+// No reply comes; a frame without a number is malformed, and its pipe goes down; and there is no peer to ask.
 #[test]
 fn a_request_without_a_reply_ends_in_time(rt: HostRuntime) {
     runs(

@@ -1,11 +1,10 @@
-//! What a test makes, and what it asks: it stops where a result is another one. Calls cost less to prove than the
-//! macros written out.
+//! The checks of tests, which abort where a result is wrong. Calls cost less to prove than the macros written out.
 ghost use Rattle.std.specs.Prelude.{◌≡◌, Ok, true};
 
 use std::fmt::Debug;
 use std::process::Abort;
 
-/// What was made.
+/// The value of `returned`. Aborts where it is an error.
 pub fn made<T, E: Debug + Drop>(rt: &impl Abort, returned: Result<T, E>) -> T
     ensures { returned ≡ Ok result }
 {
@@ -15,12 +14,12 @@ pub fn made<T, E: Debug + Drop>(rt: &impl Abort, returned: Result<T, E>) -> T
     }
 }
 
-/// Both are the same.
+/// Aborts where `left` and `right` differ.
 pub fn same<T: PartialEq + Debug + Drop>(rt: &impl Abort, left: T, right: T) {
     assert_eq!(rt; left, right);
 }
 
-/// It holds.
+/// Aborts where `it` is false.
 pub fn holds(rt: &impl Abort, it: bool)
     ensures { it ≡ true }
 {

@@ -1,4 +1,4 @@
-//! What a round asks where nothing comes: each silent link once, each listener once, and each address once in 100
+//! The calls of a round in which nothing comes: each silent link once, each listener once, and each address once in 100
 //! ticks.
 ghost use Rattle.sp_fakes.specs.Nets.{net_view};
 
@@ -98,7 +98,7 @@ const PULL: &[&str] = &[
 /// Dials one address.
 const DIALS: &[&str] = &["--pull", "--dial", "tcp://127.0.0.1:5555", "--count", "1"];
 
-/// How often a run called its net and read its links.
+/// The number of times that a run called its net and read its links.
 #[derive(Clone, Copy)]
 struct CountedCalls {
     accepts: u32,
@@ -106,7 +106,7 @@ struct CountedCalls {
     reads: u32,
 }
 
-// The calls of a run of so many turns with these words, where three links come that greet and bring nothing.
+// The calls of a run of `turns` turns with these words, where three links come that greet and bring nothing.
 fn calls_of<R: AllocGlobal + Wait + Threads + Sync + Abort>(
     rt: &R,
     texts: &[&str],
@@ -139,7 +139,7 @@ fn calls_of<R: AllocGlobal + Wait + Threads + Sync + Abort>(
 }
 
 // A hundred rounds more in which nothing comes cost a hundred accepts of each listener and a hundred reads of each
-// link. An address at which nobody answers is dialed at the first tick, and again 100 ticks later.
+// link. An address that doesn't answer is dialed at the first tick, and again 100 ticks later.
 #[test]
 fn a_round_in_which_nothing_comes_is_cheap(rt: HostRuntime) {
     let once = calls_of(&rt, PULL, 100);

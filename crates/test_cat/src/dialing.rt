@@ -12,24 +12,24 @@ use std::process::Abort;
 use std::sync::Wait;
 use std::thread::Threads;
 
-/// A net in memory whose first dials only begin a connection. It keeps how often it was asked at a listener before each
-/// dial, which is once a tick.
+/// A net in memory whose first dials only begin a connection. It keeps the number of accepts before each dial, one of
+/// which falls in each tick.
 #[derive(Drop)]
 pub struct BegunNet {
     pub net: MemNet,
-    /// How many dials more begin a connection.
+    /// How many more dials begin a connection.
     pub begins: u32,
-    /// How often nothing was there.
+    /// The number of accepts and dials that gave nothing yet.
     pub idles: u64,
     /// How often it was asked to accept.
     pub accepts: u32,
-    /// How many dials there were, and how many accepts lay before each of the first eight.
+    /// The number of dials, and the number of accepts before each of the first eight.
     pub dials: usize,
     pub ticks: [u32; 8],
 }
 
 impl BegunNet {
-    // It was dialed.
+    // Notes a dial.
     fn note(&mut self)
         ensures { (self.new.net ≡ self.old.net) × (self.new.idles ≡ self.old.idles) × (self.new.begins ≡ self.old.begins) }
     {
@@ -88,7 +88,7 @@ impl Net for BegunNet {
     }
 }
 
-/// Dials one address, and listens at another one, where nobody comes.
+/// Dials one address, and listens at another, where no link comes.
 const PULL: &[&str] = &[
     "--pull",
     "--dial",
@@ -98,8 +98,8 @@ const PULL: &[&str] = &[
     "--raw",
 ];
 
-// The ticks of the first eight dials of a run of 250 milliseconds, where so many dials only begin a connection, the
-// next one has it, and nobody is there after its end.
+// The ticks of the first eight dials of a run of 250 milliseconds, where `begins` dials only begin a connection, the
+// next one gets it, and after its end no dial gets a link.
 fn dial_ticks<R: AllocGlobal + Wait + Threads + Sync + Abort>(
     rt: &R,
     begins: u32,
@@ -134,9 +134,9 @@ fn dial_ticks<R: AllocGlobal + Wait + Threads + Sync + Abort>(
     (net.ticks, net.dials)
 }
 
-// A connection that is under way is asked for at each tick. It is made at the fourth, its link ends in that round and is
-// back in the next one, and 100 ticks after nobody is there, which is tried again 100 ticks after. Each tick has one
-// accept before its dials. With no wait for a connection all of it comes three ticks earlier.
+// A connection that has begun is asked for at each tick. It is made at the fourth, and its link ends in that round and
+// is back in the next one. The dial 100 ticks later gets no link, and is tried again after 100 more. Each tick has one
+// accept before its dials. Without a wait for the connection all of this comes three ticks earlier.
 #[test]
 fn a_connection_under_way_is_asked_for_at_each_tick(rt: HostRuntime) {
     let (ticks, dials) = dial_ticks(&rt, 3);

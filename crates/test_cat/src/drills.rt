@@ -1,4 +1,4 @@
-//! A drill, as the words ask for it.
+//! Drills that the words ask for.
 use crate::checks::{holds, made, same};
 use crate::lines::{bare, runs};
 use cat_fakes::play;
@@ -7,7 +7,7 @@ use cat_run::Status;
 /// What a drill of two messages prints.
 const TWO: &[u8] = b"given 2\nsum 3318706044697439873\nopen 0\n";
 
-// It prints the three lines, and asks nothing of net and pace.
+// It prints the three lines, and doesn't call net or pace.
 #[test]
 fn a_drill_prints_its_lines(rt: HostRuntime) {
     runs(
@@ -22,7 +22,7 @@ fn a_drill_prints_its_lines(rt: HostRuntime) {
     );
 }
 
-// Where the sink fails, a prefix of the lines stands there.
+// Where the sink fails, a prefix of the lines is written.
 #[test]
 fn a_drill_ends_where_the_sink_fails(rt: HostRuntime) {
     let mut outside = bare(&rt, rt.alloc());

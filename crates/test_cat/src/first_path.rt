@@ -207,7 +207,7 @@ fn two_links_are_served_at_once(rt: HostRuntime) {
     );
 }
 
-// While 256 links are in their greetings nobody is accepted, so the last link prints only where silent ones were given
+// While 256 links are in their greetings none is accepted, so the last link prints only where silent ones were given
 // up.
 #[test]
 fn a_greeting_that_never_comes_is_given_up(rt: HostRuntime) {

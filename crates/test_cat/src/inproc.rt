@@ -1,4 +1,4 @@
-//! Names within the process: one command that listens on them and dials them, alone and beside TCP.
+//! Names within the process: one command that listens on them and dials them, by themselves and together with TCP.
 use crate::lines::runs;
 
 // The net isn't asked for a link, and no turn is used.
@@ -35,8 +35,7 @@ fn a_name_that_is_listened_on_twice_is_a_fault(rt: HostRuntime) {
 }
 
 // A bus has two pipes to itself over one name, and its message goes out on both. A hundred messages are more than a
-// lane holds: each pipe is read while the other one is written. In the last but one row the second name of each is the
-// one that meets.
+// lane holds: each pipe is read while the other one is written. In the last row but one the second names match.
 #[test]
 fn a_bus_talks_to_itself(rt: HostRuntime) {
     runs(
@@ -62,8 +61,8 @@ fn a_bus_talks_to_itself(rt: HostRuntime) {
     );
 }
 
-// A pair has one pipe: it refuses the other half of the lane that it dialed, and tells the half that it has of the end.
-// So its pipe goes down before it sends, and its message goes out on the pipe of its next dial, 100 turns after.
+// A pair has one pipe: it refuses the other half of the lane that it dialed, and its own half is told of the end. So
+// its pipe goes down before it sends, and its message goes out on the pipe of its next dial, 100 turns later.
 #[test]
 fn a_lane_that_is_left_is_told_its_end(rt: HostRuntime) {
     runs(
@@ -74,7 +73,7 @@ fn a_lane_that_is_left_is_told_its_end(rt: HostRuntime) {
     );
 }
 
-// Nobody whom a role talks to is there: a name that nobody listens on, or one that the own role listens on.
+// There is no peer of the right role: nothing listens on the name, or the own role does.
 #[test]
 fn a_name_without_a_peer_waits(rt: HostRuntime) {
     runs(
@@ -130,7 +129,7 @@ fn a_name_without_a_peer_times_out(rt: HostRuntime) {
     );
 }
 
-// Names stand before, between and behind the address of TCP.
+// Names come before, between and after the address of TCP.
 #[test]
 fn names_stand_beside_tcp(rt: HostRuntime) {
     runs(

@@ -2,7 +2,7 @@
 use crate::lines::runs;
 
 // Without a count an interval leaves no bound, so the run goes on until the pace ends, here after three turns. A
-// greeting has 8 bytes on a wire, and a message of one byte has 9. More than 1,000 messages are sent; in a round up to
+// greeting has 8 bytes on a wire, and a message of one byte has 9. More than 1,000 messages are sent; a round has up to
 // 64 sweeps of up to 64 steps.
 #[test]
 fn a_push_with_interval_0_sends_again_and_again(rt: HostRuntime) {
@@ -21,7 +21,7 @@ fn a_push_with_interval_0_sends_again_and_again(rt: HostRuntime) {
     );
 }
 
-// 95 turns of 100 milliseconds: one message at once, and one each two seconds. Five messages and a greeting are 53
+// 95 turns of 100 milliseconds: one message at once, and one every two seconds. Five messages and a greeting are 53
 // bytes.
 #[test]
 fn a_push_sends_at_its_interval(rt: HostRuntime) {

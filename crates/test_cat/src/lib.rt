@@ -1,4 +1,4 @@
-//! Tests of nngcat's top call over the outside in memory, with exact bytes: what each role sends and prints, and when.
+//! Tests of nngcat's top call over a system in memory, with exact bytes: what each role sends and prints, and when.
 #![tactic(auto)]
 
 #[cfg(test)]

@@ -1,14 +1,14 @@
-//! Runs as lines of words: what is outside of a run, what it comes to, and what is compared then.
+//! Runs as lines of words: the system around a run, its result, and what is compared with it.
 //!
 //! | line | what it says |
 //! |---|---|
 //! | `words WORD..` | the words of the runs below; two apostrophes are an empty word |
-//! | `link STEP..`, `links COUNT STEP..` | one link more, or so many, each with this script |
-//! | `listener` | the links below come at one listener more |
+//! | `link STEP..`, `links COUNT STEP..` | one more link, or COUNT more, each with this script |
+//! | `listener` | the links below come at one more listener |
 //! | `dials PORT`, `dials PORT PATH` | the links below are for dials to this port of 127.0.0.1, over TCP or WebSocket |
 //! | `pace TURNS STEP` | how many turns the pace has, and how many milliseconds apart |
 //! | `net_fails N`, `sink_fails N` | the Nth call of the net or the sink fails |
-//! | `comes STATUS` | the words are run, and have this status; the lines below tell of this run |
+//! | `comes STATUS` | the words are run, and have this status; the lines below are about this run |
 //! | `exit N` | its exit code |
 //! | `record yes`, `record no` | whether it has a record |
 //! | `opened N`, `left N`, `below N`, `above N` | the links handed out; the turns left, and bounds on them |
@@ -16,13 +16,13 @@
 //! | `writes BYTES..`, `second BYTES..` | what was written on the first link, and on the second |
 //! | `prints_one BYTES.. | BYTES..` | one of these was printed |
 //! | `length N`, `longer N`, `shorter N` | how many bytes were written on the first link, and bounds on that |
-//! | `tail BYTES..` | what was written on the first link ends so |
+//! | `tail BYTES..` | what was written on the first link ends with this |
 //!
 //! A step is bytes, which come at once, or `wait:N` (N times nothing), `after:N` (nothing until N bytes were written),
-//! `end`, `fail`; before them may stand `take:N` (a write takes N bytes) and `single` (bytes come one at a time). Bytes
-//! are hex digits, an apostrophe and text, as `0000'a` with two bytes of 0 before the `a`, or the name of a text in
-//! `named`. A link's piece may be several of these with plus signs between them; what is compared is all bytes of the
-//! line together. A line that is none of these, or lacks a word, fails its test.
+//! `end`, `fail`; before them there may be `take:N` (a write takes N bytes) and `single` (bytes come one at a time).
+//! Bytes are hex digits, an apostrophe and text, as `0000'a` with two bytes of 0 before the `a`, or the name of a text
+//! in `named`. A link's piece may be several of these with plus signs between them; all bytes of a line are compared
+//! together. A line that is none of these, or lacks a word, fails its test.
 use crate::checks::made;
 use crate::texts::named;
 use cat_fakes::{ALL, Came, Outside, TURNS, play};
@@ -37,7 +37,7 @@ use std::thread::Threads;
 
 // ---- Words
 
-// The first word, and what is behind it.
+// The first word, and the rest.
 fn cut(line: &str) -> (&str, &str) {
     match line.split_once(' ') {
         Some(parts) => parts,
@@ -74,7 +74,7 @@ fn digit(byte: u8) -> Option<u8> {
     }
 }
 
-// Puts the bytes of the hex digits last. Whether they are pairs of digits.
+// Appends the bytes of the hex digits. Returns whether they are pairs of digits.
 fn add_hex(rt: &impl Abort, bytes: &mut Bytes, hex: &str) -> bool {
     let mut high = None;
     for byte in hex.as_bytes() {
@@ -96,7 +96,7 @@ fn add_hex(rt: &impl Abort, bytes: &mut Bytes, hex: &str) -> bool {
     high.is_none()
 }
 
-// Puts the bytes of the word last. Whether it has some.
+// Appends the bytes of the word. Returns whether it has some.
 fn add_bytes(rt: &impl Abort, bytes: &mut Bytes, word: &str) -> bool {
     match word.split_once('\'') {
         Some((hex, text)) => {
@@ -116,7 +116,7 @@ fn add_bytes(rt: &impl Abort, bytes: &mut Bytes, word: &str) -> bool {
     }
 }
 
-/// The bytes of the words, one behind the other; none where there is no word.
+/// The bytes of the words, one after another; `None` where there is no word.
 pub fn bytes_of(rt: &impl Abort, alloc: Global, words: &str) -> Option<Bytes> {
     if words.is_empty() {
         return None;
@@ -130,7 +130,7 @@ pub fn bytes_of(rt: &impl Abort, alloc: Global, words: &str) -> Option<Bytes> {
     Some(bytes)
 }
 
-// The bytes of a word of several, with plus signs between them.
+// The bytes of a word made of several with plus signs between them.
 fn piece_of(rt: &impl Abort, alloc: Global, word: &str) -> Option<Bytes> {
     let mut bytes = made(rt, Bytes::from_slice(alloc, b""));
     for part in word.split('+') {
@@ -162,7 +162,7 @@ impl LinkWords {
         }
     }
 
-    // The bytes come at once, or each of them alone.
+    // Adds bytes that come at once, or one at a time.
     fn say(&mut self, rt: &impl Abort, alloc: Global, bytes: Bytes) {
         if self.is_single {
             for byte in bytes.as_slice() {
@@ -174,7 +174,7 @@ impl LinkWords {
         }
     }
 
-    // So many times nothing, or nothing until so many bytes were written. Whether the words are one of these.
+    // Adds nothing `n` times, or nothing until `n` bytes were written. Returns whether the kind is one of these.
     fn add_pause(&mut self, rt: &impl Abort, kind: &str, n: u64) -> bool {
         match kind {
             "wait" => self.wait(rt, n),
@@ -184,7 +184,7 @@ impl LinkWords {
         true
     }
 
-    // A word with a number. Whether it is one.
+    // Adds a word with a number. Returns whether it is one.
     fn add_counted(&mut self, rt: &impl Abort, word: &str) -> bool {
         let Some((kind, n)) = word.split_once(':') else {
             return false;
@@ -208,7 +208,7 @@ impl LinkWords {
         }
     }
 
-    // One word more. Whether it is one of a link.
+    // Adds one more word. Returns whether it is one of a link.
     fn add(&mut self, rt: &impl Abort, alloc: Global, word: &str) -> bool {
         match word {
             "end" => self.push(rt, LinkStep::End),
@@ -243,7 +243,7 @@ pub fn link(rt: &impl Abort, alloc: Global, words: &str) -> Option<MemLink> {
     Some(MemLink::new(alloc, script, take, Vec::new(alloc)))
 }
 
-/// Nothing comes at the first listen, no dial gets a link, and nothing fails.
+/// A system where nothing comes at the first listen, no dial gets a link, and nothing fails.
 pub fn bare(rt: &impl Abort, alloc: Global) -> Outside {
     let mut incoming = Vec::new(alloc);
     made(rt, incoming.push(Vec::new(alloc)));
@@ -257,7 +257,7 @@ pub fn bare(rt: &impl Abort, alloc: Global) -> Outside {
     }
 }
 
-// One link more at the last address that is dialed, or at the last listener where none is.
+// Adds a link at the last address that is dialed, or at the last listener where none is.
 fn add_link(rt: &impl Abort, outside: &mut Outside, link: MemLink) {
     if let Some((addr, mut links)) = outside.outgoing.pop() {
         made(rt, links.push(link));
@@ -270,7 +270,7 @@ fn add_link(rt: &impl Abort, outside: &mut Outside, link: MemLink) {
     }
 }
 
-// So many links more, each of these words.
+// Adds more links, each of these words.
 fn add_links(
     rt: &impl Abort,
     alloc: Global,
@@ -287,7 +287,7 @@ fn add_links(
     true
 }
 
-// The port, over TCP where no path is behind it.
+// The address with this port, over TCP where no path follows it.
 fn address(rt: &impl Abort, alloc: Global, words: &str) -> Option<Addr> {
     let (port, path) = cut(words);
     let port = match port.parse::<u16>() {
@@ -335,7 +335,7 @@ fn add_number(rt: &impl Abort, numbers: &mut Vec<u64>, word: &str) -> bool {
     }
 }
 
-/// A line of what is outside. Whether it is one.
+/// Adds what a line says about the system around a run. Returns whether it is such a line.
 pub fn arrange(rt: &impl Abort, alloc: Global, outside: &mut Outside, line: &str) -> bool {
     let (key, words) = cut(line);
     match key {
@@ -359,9 +359,9 @@ pub fn arrange(rt: &impl Abort, alloc: Global, outside: &mut Outside, line: &str
     }
 }
 
-// ---- What a run comes to
+// ---- The result of a run
 
-/// Whether it is the status of this name.
+/// Returns whether it is the status of this name.
 pub fn is_status(status: Status, word: &str) -> bool {
     match word {
         "done" => status == Status::Done,
@@ -380,7 +380,7 @@ pub fn is_status(status: Status, word: &str) -> bool {
     }
 }
 
-// Whether these are the bytes of the words.
+// Returns whether these are the bytes of the words.
 fn are(rt: &impl Abort, alloc: Global, bytes: &[u8], words: &str) -> bool {
     match bytes_of(rt, alloc, words) {
         Some(wanted) => bytes == wanted.as_slice(),
@@ -388,7 +388,7 @@ fn are(rt: &impl Abort, alloc: Global, bytes: &[u8], words: &str) -> bool {
     }
 }
 
-// Whether these are the bytes of one of the words between bars.
+// Returns whether these are the bytes of one of the words between bars.
 fn is_one_of(rt: &impl Abort, alloc: Global, bytes: &[u8], words: &str) -> bool {
     for one in words.split('|') {
         if are(rt, alloc, bytes, one) {
@@ -405,7 +405,7 @@ fn end_so(rt: &impl Abort, alloc: Global, bytes: &[u8], words: &str) -> bool {
     }
 }
 
-/// Whether what the line tells of the run is so.
+/// Returns whether what the line says about the run is true.
 pub fn is_so(rt: &impl Abort, alloc: Global, came: &Came, line: &str) -> bool {
     let (key, words) = cut(line);
     match key {
@@ -439,7 +439,7 @@ pub fn is_so(rt: &impl Abort, alloc: Global, came: &Came, line: &str) -> bool {
     }
 }
 
-// Runs that lines tell of.
+// The state of runs that lines describe.
 #[derive(Drop)]
 struct RunState<'a> {
     words: &'a str,
@@ -460,7 +460,7 @@ pub fn play_words<R: AllocGlobal + Wait + Threads + Sync + Abort>(
     made(rt, play(rt, texts.as_slice(), outside))
 }
 
-// One line more. Whether it is so.
+// Plays one more line. Returns whether it is right.
 fn takes<'a, R: AllocGlobal + Wait + Threads + Sync + Abort>(
     rt: &R,
     runs: &mut RunState<'a>,
@@ -492,7 +492,7 @@ fn takes<'a, R: AllocGlobal + Wait + Threads + Sync + Abort>(
     }
 }
 
-/// Runs what the lines tell, and compares it. It aborts at the first line that is not so.
+/// Runs what the lines describe, and compares the results. Aborts at the first line that isn't right.
 pub fn runs<R: AllocGlobal + Wait + Threads + Sync + Abort>(rt: &R, text: &str) {
     let mut runs = RunState {
         words: "",

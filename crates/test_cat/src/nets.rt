@@ -1,4 +1,4 @@
-//! A net in memory by itself, and runs whose links are lost, refused or given back.
+//! The net in memory by itself, and runs whose links are lost, refused or given back.
 use crate::checks::{holds, made, same};
 use crate::lines::{link, runs};
 use cat_fakes::{PULL, words};
@@ -8,7 +8,7 @@ use sp_fakes::{MemFiles, MemLink, MemNet, MemPace, MemSink};
 use std::alloc::Global;
 use std::process::Abort;
 
-// Listens at a port, accepts there, and returns the listener's number and how many bytes came of the link at once.
+// Listens at a port, accepts there, and returns the listener's number and how many bytes came from the link at once.
 fn first_read(net: &mut MemNet, port: u16) -> Option<(u32, usize)> {
     let addr = Addr::Tcp {
         host: Host::Any,
@@ -31,7 +31,7 @@ fn first_read(net: &mut MemNet, port: u16) -> Option<(u32, usize)> {
     came
 }
 
-// A link of each of these words, which stand between commas.
+// A link for each of the scripts in the text, with commas between them.
 fn links_of(rt: &impl Abort, alloc: Global, text: &str) -> Vec<MemLink> {
     let mut links = Vec::new(alloc);
     for words in text.split(',') {
@@ -60,7 +60,7 @@ fn each_listener_has_links_of_its_own(rt: HostRuntime) {
     same(&rt, first_read(&mut net, 4), None);
 }
 
-// The first link brings a message and ends, the second another one. Between them lie a hundred milliseconds.
+// The first link brings a message and ends, the second brings another. A hundred milliseconds lie between them.
 #[test]
 fn a_pipe_that_is_lost_is_dialed_again(rt: HostRuntime) {
     runs(
@@ -78,8 +78,8 @@ fn a_pipe_that_is_lost_is_dialed_again(rt: HostRuntime) {
     );
 }
 
-// A dial that fails is tried again 100 milliseconds after. A link on which nobody greets is given back after ten
-// seconds, and the address is dialed again.
+// A dial that fails is tried again 100 milliseconds later. A link without a greeting is given back after ten seconds,
+// and the address is dialed again.
 #[test]
 fn a_dial_that_fails_is_tried_again(rt: HostRuntime) {
     runs(
@@ -109,7 +109,7 @@ fn a_dial_that_fails_is_tried_again(rt: HostRuntime) {
     );
 }
 
-// Whether the link with this place came back, and was shut.
+// Returns whether the link with this place came back, and was shut.
 fn is_back(net: &MemNet, place: u32) -> bool {
     match net.returned(place) {
         Some(link) => !link.is_open(),

@@ -1,5 +1,4 @@
-//! Runs that come to nothing: wrong words, a listen or an output that fails, a pace that is over; and what is said of
-//! each status.
+//! Runs that fail: wrong words, a listen or an output that fails, a pace that is over; and the text of each status.
 ghost use Rattle.sp_fakes.specs.Nets.{net_view};
 
 use crate::checks::{holds, made, same};
@@ -54,7 +53,7 @@ fn words_without_a_plan_are_refused_at_their_place(rt: HostRuntime) {
     );
 }
 
-// The first listen, and the second one of two.
+// The first listen fails, and the second of two.
 #[test]
 fn a_failing_listen_ends_the_run(rt: HostRuntime) {
     runs(
@@ -90,8 +89,8 @@ fn a_failing_output_ends_the_run(rt: HostRuntime) {
     );
 }
 
-// Each message is one put, in its turn: where the second one fails, the first text stands there alone. A message whose
-// text is empty is none.
+// Each message is one put: where the second put fails, only the first text is printed. A message with an empty text is
+// no put.
 #[test]
 fn a_message_is_one_put(rt: HostRuntime) {
     runs(
@@ -148,7 +147,7 @@ fn a_pace_of_nothing_is_over(rt: HostRuntime) {
     );
 }
 
-// Whether this is said of a status, behind an x.
+// Returns whether this is the text of a status, after an x.
 fn is_said(rt: &impl Abort, alloc: Global, status: Status, wanted: &[u8]) -> bool {
     let mut line = made(rt, Bytes::from_slice(alloc, b"x"));
     made(rt, complaint(alloc, status, &mut line));

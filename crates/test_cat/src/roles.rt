@@ -36,7 +36,7 @@ fn a_push_that_dials_sends_what_a_file_holds(rt: HostRuntime) {
     );
 }
 
-// The first link ends before its greeting is whole, the second gives a message.
+// The first link ends before its greeting is whole, the second brings a message.
 #[test]
 fn a_dialed_link_that_is_lost_is_dialed_again(rt: HostRuntime) {
     runs(
@@ -51,7 +51,7 @@ fn a_dialed_link_that_is_lost_is_dialed_again(rt: HostRuntime) {
     );
 }
 
-// The first link brings nothing, and another would be there for a second dial.
+// The first link brings nothing, and there is another for a second dial.
 #[test]
 fn an_address_is_not_dialed_while_its_link_stands(rt: HostRuntime) {
     runs(

@@ -1,4 +1,4 @@
-//! What a round asks of links and listeners, how far it goes, and what the pace is told of it.
+//! How a round calls links and listeners, when it ends, and what the pace is told about it.
 ghost use Rattle.sp_fakes.specs.Paces.{pace_view};
 
 use crate::checks::{holds, made, same};
@@ -15,7 +15,7 @@ const PULL: &[&str] = &["--pull", "--listen", "tcp://127.0.0.1:5555", "--raw"];
 /// A message of one byte, `x`.
 const X: &[u8] = b"\x00\x00\x00\x00\x00\x00\x00\x01x";
 
-// A link that gives so many messages at once, and then nothing for ever.
+// A link that gives `count` messages at once, and then nothing.
 fn talker(rt: &impl Abort, alloc: Global, count: u32) -> MemLink {
     let mut all = made(rt, Vec::from_slice(alloc, HELLO_80));
     for _ in 0..count {
@@ -45,8 +45,7 @@ impl Pace for CountingPace {
     }
 }
 
-// While a round ends with messages that wait, the pace is told that they move; on a link that is silent, that they
-// don't.
+// Where a round ends with messages that wait, the pace is told that messages move; on a silent link, that none do.
 #[test]
 fn the_pace_is_told_whether_messages_move(rt: HostRuntime) {
     let alloc = rt.alloc();
@@ -74,7 +73,7 @@ fn the_pace_is_told_whether_messages_move(rt: HostRuntime) {
     holds(&rt, pace.rested > 180);
 }
 
-// These links come, and the pace has so many turns.
+// A system in which these links come, and the pace has `turns` turns.
 fn within(rt: &impl Abort, alloc: Global, links: Vec<MemLink>, turns: u64) -> Outside {
     let mut outside = made(rt, incoming(alloc, links));
     outside.turns = turns;
@@ -93,7 +92,7 @@ fn a_round_prints_some_messages(rt: HostRuntime) {
     holds(&rt, came.printed.len() <= 64 * 65);
 }
 
-// Each listener is asked until it has no link, or has brought 16 in this turn: 40 links come at one, or 20 at each of
+// Each listener is asked until it has no link, or has given 16 in this turn: 40 links come at one, or 20 at each of
 // two.
 #[test]
 fn each_listener_brings_16_links_a_turn(rt: HostRuntime) {
@@ -144,7 +143,7 @@ fn each_listener_brings_16_links_a_turn(rt: HostRuntime) {
     );
 }
 
-// While 256 links of a listener are in their greetings it is asked for no other.
+// While 256 links of a listener are in their greetings, it isn't asked for another.
 #[test]
 fn nothing_is_accepted_behind_256_greetings(rt: HostRuntime) {
     runs(
@@ -157,8 +156,8 @@ fn nothing_is_accepted_behind_256_greetings(rt: HostRuntime) {
     );
 }
 
-// With 256 silent links at one listener the other one brings its link, which stands behind 320 wrong ones, so behind 20
-// turns.
+// With 256 silent links at one listener, the other one still gives its link, which comes after 320 wrong ones and so
+// after 20 turns.
 #[test]
 fn silent_links_hold_back_no_other_listener(rt: HostRuntime) {
     runs(
@@ -175,7 +174,7 @@ fn silent_links_hold_back_no_other_listener(rt: HostRuntime) {
     );
 }
 
-// Seventeen listeners bring 272 silent links in the first turn. A bus talks to itself over a name in the same turn.
+// Seventeen listeners give 272 silent links in the first turn. A bus talks to itself over a name in the same turn.
 #[test]
 fn silent_links_hold_back_no_name(rt: HostRuntime) {
     runs(
@@ -226,7 +225,7 @@ fn silent_links_hold_back_no_name(rt: HostRuntime) {
     );
 }
 
-// A link whose greeting is wrong is in its greetings no more: behind 300 of them one that is right comes up.
+// A link whose greeting is wrong is no longer in its greetings: after 300 of them a right one comes up.
 #[test]
 fn wrong_greetings_keep_nobody_out(rt: HostRuntime) {
     runs(

@@ -1,8 +1,8 @@
 //! What a pub and a bus send to all of their peers, and what a bus and a sub print.
 use crate::lines::runs;
 
-// Two are sent, a second apart. The greeting of the second subscriber is whole in the second round: it gets the second
-// one.
+// Two messages are sent, a second apart. The greeting of the second subscriber is whole in the second round, so it gets
+// only the second message.
 #[test]
 fn a_pub_sends_to_each_subscriber(rt: HostRuntime) {
     runs(
@@ -37,7 +37,7 @@ fn a_pub_waits_for_a_subscriber(rt: HostRuntime) {
     );
 }
 
-// Without a second within the turns of the pace only the first one is sent.
+// Without a second within the turns of the pace only the first message is sent.
 #[test]
 fn a_bus_sends_at_its_interval(rt: HostRuntime) {
     runs(

@@ -20,7 +20,7 @@ const ASKS: &[&str] = &[
     "1",
 ];
 
-// It is over at the tick 1,000, and the run closes in the round after it.
+// The survey is over at tick 1,000, and the run closes in the round after it.
 #[test]
 fn a_survey_prints_what_came_in_time(rt: HostRuntime) {
     runs(
@@ -54,8 +54,8 @@ fn a_response_of_another_survey_is_not_printed(rt: HostRuntime) {
     );
 }
 
-// A survey that nobody answers is over in its time, while a receive waits. Where nobody is there to ask, no survey
-// begins. In the last run the deadline of the receive comes first.
+// A survey without answers is over at its time, while a receive waits. Where there is no peer to ask, no survey begins.
+// In the last run the deadline of the receive comes first.
 #[test]
 fn a_survey_without_a_response_is_over(rt: HostRuntime) {
     runs(
@@ -103,7 +103,7 @@ fn surveys_follow_one_another(rt: HostRuntime) {
     );
 }
 
-// Two respondents that say more than a round takes.
+// Two respondents that send more than a round takes.
 fn talkers(rt: &impl Abort, alloc: Global) -> Vec<MemLink> {
     let mut much = Vec::new(alloc);
     for _ in 0..5_000 {
@@ -124,8 +124,8 @@ fn talkers(rt: &impl Abort, alloc: Global) -> Vec<MemLink> {
     links
 }
 
-// A second goes by while a response waits to be collected: it is printed, the survey counts there, and what else was
-// kept is gone.
+// A second goes by while a response waits to be collected: it is printed and the survey counts, but the other queued
+// responses are dropped.
 #[test]
 fn a_survey_is_found_over_at_a_response(rt: HostRuntime) {
     let alloc = rt.alloc();
@@ -148,7 +148,7 @@ fn a_survey_is_found_over_at_a_response(rt: HostRuntime) {
     holds(&rt, came.printed.iter().all(|byte| *byte == b'a'));
 }
 
-// Without data it counts what it prints, and writes its greeting alone.
+// Without data it counts what it prints, and writes only its greeting.
 #[test]
 fn a_respondent_answers_a_survey(rt: HostRuntime) {
     runs(

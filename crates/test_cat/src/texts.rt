@@ -1,6 +1,7 @@
-//! Texts that have a name in the lines of tests: what a drill prints, greetings, and heads of WebSocket's opening.
+//! Texts that have a name in the lines of tests: what a drill prints, greetings, and heads of WebSocket's opening
+//! handshake.
 
-// The texts, each behind its name and an equals sign, with a bar between two. Heads that ask bring a key: the sample
+// The texts, each after its name and an equals sign, with a bar between two. Heads of clients have a key: the sample
 // key of the standard, or the first or the second key of a run.
 const TEXTS: &str = "\
     drill_of_two=given 2\nsum 3318706044697439873\nopen 0\n|\

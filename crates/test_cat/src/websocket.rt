@@ -76,7 +76,7 @@ fn asked<R: Wait + Abort>(alloc: Global, rt: &R) -> Vec<u8> {
     made(rt, Vec::from_slice(alloc, link.written()))
 }
 
-// Whether a client pulls this message of these bytes.
+// Returns whether a client pulls this message of these bytes.
 fn pulls<R: Wait + Abort>(alloc: Global, rt: &R, bytes: &[u8], wanted: &[u8]) -> bool {
     let mut wire = client(rt, alloc, &[bytes]);
     match wire.pull(rt) {
@@ -85,7 +85,7 @@ fn pulls<R: Wait + Abort>(alloc: Global, rt: &R, bytes: &[u8], wanted: &[u8]) ->
     }
 }
 
-// The request comes of a wire of this project, and the reply goes to one.
+// The request comes from a wire of this project, and the reply goes to one.
 #[test]
 fn a_rep_answers_a_wire_of_a_client(rt: HostRuntime) {
     let asks = asked(rt.alloc(), &rt);
@@ -105,7 +105,7 @@ fn a_rep_answers_a_wire_of_a_client(rt: HostRuntime) {
     holds(&rt, pulls(rt.alloc(), &rt, frames, b"\x80\x00\x00\x05OK"));
 }
 
-// A message behind it isn't read.
+// A message after it isn't read.
 #[test]
 fn a_text_message_closes_its_pipe(rt: HostRuntime) {
     runs(
@@ -122,7 +122,7 @@ fn a_text_message_closes_its_pipe(rt: HostRuntime) {
     );
 }
 
-// A turn is 100 milliseconds. A head that comes after ten seconds finds no link any more.
+// A turn is 100 milliseconds. When a head comes after ten seconds, the link is gone.
 #[test]
 fn a_late_head_is_not_answered(rt: HostRuntime) {
     runs(
@@ -162,7 +162,7 @@ fn a_bad_head_is_not_answered(rt: HostRuntime) {
     );
 }
 
-// The eight bytes of a masked binary message; none where it is another frame.
+// The eight bytes of a masked binary message; `None` where it is another frame.
 fn payload(rt: &impl Abort, alloc: Global, frame: &[u8]) -> Vec<u8> {
     let mut text = Vec::new(alloc);
     if frame.len() != 14 || frame[0] != 0x82 || frame[1] != 0x88 {
@@ -231,7 +231,7 @@ fn a_link_that_came_up_has_spent_its_key(rt: HostRuntime) {
     );
 }
 
-// The first dial fails, or is one of an address where nobody is: the link that comes is asked with the first key.
+// The first dial fails, or its address has no link: the link that comes is asked with the first key.
 #[test]
 fn a_dial_that_gets_no_link_spends_no_key(rt: HostRuntime) {
     runs(
@@ -313,7 +313,7 @@ fn each_dial_asks_for_its_own_address(rt: HostRuntime) {
     );
 }
 
-// The same request over both; the reply is framed as its transport frames it.
+// The same request comes over both, and each reply is framed for its transport.
 #[test]
 fn tcp_and_websocket_are_served_in_one_run(rt: HostRuntime) {
     runs(

@@ -1,4 +1,4 @@
-//! What words ask for, beyond the first plays: files that fail, times of nothing, data.
+//! Options of the words, beyond the first plays: files that fail, times of nothing, data.
 use crate::checks::{made, same};
 use crate::lines::runs;
 use cat_fakes::{TURNS, words};
@@ -11,8 +11,8 @@ use std::thread::Threads;
 
 const A: &str = "tcp://127.0.0.1:5555";
 
-// How a push of the file `f` ends over files that hold one of this name, where these of their calls fail; whether it
-// has a record, how many links were handed out, and how many turns are left.
+// The end of a push of the file `f` over files that hold one of this name, where these of their calls fail: the status,
+// whether it has a record, how many links were handed out, and how many turns are left.
 fn sending<R: AllocGlobal + Wait + Threads + Sync + Abort>(
     rt: &R,
     held: &str,
@@ -99,7 +99,7 @@ fn a_rep_without_data_counts_what_it_receives(rt: HostRuntime) {
     );
 }
 
-// A requester asks `a`, and `c` when its first reply was written; another one asks `b`.
+// A requester asks `a`, and `c` once its first reply was written; another one asks `b`.
 #[test]
 fn replies_go_back_on_their_links(rt: HostRuntime) {
     runs(

@@ -1,10 +1,10 @@
-//! What a test asks: it stops where a result is another one. Calls cost less to prove than the macros written out.
+//! The checks of tests, which abort where a result is wrong. Calls cost less to prove than the macros written out.
 ghost use Rattle.std.specs.Prelude.{◌≡◌, Ok};
 
 use std::fmt::Debug;
 use std::process::Abort;
 
-/// What was made.
+/// The value of `returned`. Aborts where it is an error.
 pub fn made<T, E: Debug + Drop>(rt: &impl Abort, returned: Result<T, E>) -> T
     ensures { returned ≡ Ok result }
 {
@@ -14,17 +14,17 @@ pub fn made<T, E: Debug + Drop>(rt: &impl Abort, returned: Result<T, E>) -> T
     }
 }
 
-/// Both are the same.
+/// Aborts where `left` and `right` differ.
 pub fn same<T: PartialEq + Debug + Drop>(rt: &impl Abort, left: T, right: T) {
     assert_eq!(rt; left, right);
 }
 
-/// Both are the same in the row of this number.
+/// Aborts where `left` and `right` differ, and names the row.
 pub fn same_at<T: PartialEq + Debug + Drop>(rt: &impl Abort, number: u32, left: T, right: T) {
     assert_eq!(rt; left, right, "row {number}");
 }
 
-/// It holds.
+/// Aborts where `it` is false.
 pub fn holds(rt: &impl Abort, it: bool) {
     assert!(rt; it);
 }

@@ -1,4 +1,4 @@
-//! `Plan::read` and `print` beside the plainest readings, over generated words and bodies.
+//! `Plan::read` and `print` compared with plain references, over generated words and bodies.
 
 use crate::checks::{holds, made, same};
 use crate::plain_texts::text_of;
@@ -11,7 +11,7 @@ use sp_base::{Addr, Bytes, Role};
 use std::alloc::Global;
 use std::process::Abort;
 
-/// Words of which lists are made; two apostrophes are the empty one.
+/// The words that lists are made of; two apostrophes are the empty one.
 const POOL: &str = "\
     --pull --push --sub0 --req --rep --pair --bus0 --pub --surveyor --respondent0 --listen --listen=tcp://*:0 \
     --listen=inproc://a --dial --dial=tcp://1.2.3.4:5 --dial=tcp://*:1 --dial=tcp://1.2.3.4:0 \
@@ -26,7 +26,7 @@ const PARTS: &str = "\
     --subscribe=b=c --count=0 --count=7 --interval=0 --interval=3 --recv-timeout=4 --send-timeout=86400 --raw \
     --quoted --msgpack --ascii";
 
-/// The next of a row of numbers that look random (a linear congruence).
+/// The next number of a random sequence (a linear congruence).
 fn next(seed: u32) -> u32 {
     seed.wrapping_mul(1_664_525).wrapping_add(1_013_904_223)
 }
@@ -44,7 +44,7 @@ fn word(words: &'static str, seed: u32, n: usize) -> &'static str {
     }
 }
 
-/// So many words of the pool.
+/// A list of `len` words of the pool.
 fn any_words(rt: &impl Abort, alloc: Global, seed: &mut u32, len: usize) -> Vec<String> {
     let mut list = Vec::new(alloc);
     for _ in 0..len {
@@ -54,7 +54,7 @@ fn any_words(rt: &impl Abort, alloc: Global, seed: &mut u32, len: usize) -> Vec<
     list
 }
 
-/// So many options, with a role somewhere among them.
+/// A list of `len` options, with a role somewhere among them.
 fn likely_words(rt: &impl Abort, alloc: Global, seed: &mut u32, len: usize) -> Vec<String> {
     let mut list = Vec::new(alloc);
     *seed = next(*seed);
@@ -95,7 +95,7 @@ fn is_same_address(a: &Addr, b: &Addr) -> bool {
     }
 }
 
-/// Whether the value is this address.
+/// Returns whether the value is this address.
 fn is_address(rt: &impl Abort, alloc: Global, addr: &Addr, value: &[u8]) -> bool {
     match address_of(rt, alloc, value) {
         Some(wanted) => is_same_address(addr, &wanted),
@@ -103,7 +103,7 @@ fn is_address(rt: &impl Abort, alloc: Global, addr: &Addr, value: &[u8]) -> bool
     }
 }
 
-/// Whether the end is the one that an option of this number says.
+/// Returns whether the end is the one of an option of this number.
 fn is_end(rt: &impl Abort, alloc: Global, end: Option<&End>, n: usize, value: &[u8]) -> bool {
     match (end, n) {
         (Some(End::Dial(addr)), 0) => is_address(rt, alloc, addr, value),
@@ -179,7 +179,7 @@ fn has_data(data: &Data, words: &[String], list: &[ListedOption]) -> bool {
     }
 }
 
-/// After how many items such a play ends.
+/// The number of items after which such a play ends.
 fn count_of(role: Role, words: &[String], list: &[ListedOption]) -> Option<u64> {
     let has_body = times(list, 2).saturating_add(times(list, 3)) == 1;
     let sends_first = match role {
@@ -231,7 +231,7 @@ fn agrees(
         && plan.format == formats_of(list).0
 }
 
-/// Whether the plainest reading reads the words as this plan.
+/// Returns whether the plain reference reads the words as this plan.
 fn is_plan(rt: &impl Abort, alloc: Global, plan: &CatPlan, words: &[String]) -> bool {
     match plan_of(rt, alloc, words) {
         Some(list) => agrees(rt, alloc, plan, words, &list),
@@ -239,7 +239,7 @@ fn is_plan(rt: &impl Abort, alloc: Global, plan: &CatPlan, words: &[String]) -> 
     }
 }
 
-/// Whether the words are read as the plainest reading reads them.
+/// Returns whether the words are read as the plain reference reads them.
 fn is_read_right(rt: &impl Abort, alloc: Global, words: &[String]) -> bool {
     match Plan::read(alloc, words) {
         Ok(Plan::Drill { count }) => drill_of(words) == Some(u64::from(count)),
@@ -269,7 +269,7 @@ fn likely_words_are_read_as_the_plain_reading_reads_them(rt: HostRuntime) {
     }
 }
 
-/// So many bytes, of which most are printed in a special way.
+/// A body of `len` bytes, most of which are printed in a special way.
 fn any_body(rt: &impl Abort, alloc: Global, seed: &mut u32, len: usize) -> Vec<u8> {
     let mut body = Vec::new(alloc);
     for _ in 0..len {
@@ -290,7 +290,7 @@ fn format_of(n: usize) -> Format {
     }
 }
 
-/// The body is printed as the plainest printing prints it, behind two letters.
+/// Checks that the body is printed as the plain reference prints it, after two letters.
 fn is_printed(rt: &impl Abort, alloc: Global, format: Format, body: &[u8]) {
     let mut out = made(rt, Bytes::from_slice(alloc, b"ab"));
     made(rt, print(alloc, format, body, &mut out));

@@ -1,4 +1,4 @@
-//! The texts of bodies, made in the plainest way, from their rules alone. Slow, and only for comparing.
+//! The texts of bodies, made in the simplest way, from only their rules. Slow, and only for comparing.
 
 use crate::checks::made;
 use cat_text::Format;
@@ -45,7 +45,7 @@ fn quote(rt: &impl Abort, text: &mut Vec<u8>, byte: u8) {
     }
 }
 
-/// The big-endian bytes of a length, so many.
+/// Pushes the last `bytes` big-endian bytes of a length.
 fn push_length(rt: &impl Abort, text: &mut Vec<u8>, len: usize, bytes: u32) {
     for k in 0..bytes {
         let mut rest = len;
@@ -78,7 +78,7 @@ fn push_byte(rt: &impl Abort, text: &mut Vec<u8>, format: Format, byte: u8) {
     }
 }
 
-/// What stands in `prefix`, and the text of the body behind it.
+/// The bytes of `prefix`, followed by the text of the body.
 pub fn text_of(
     rt: &impl Abort,
     alloc: Global,

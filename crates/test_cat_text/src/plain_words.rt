@@ -1,5 +1,5 @@
-//! The words of nngcat, read in the plainest way, from their rules alone: a list is cut into options, and the rules are
-//! then looked up over the whole list. How far a list can be the beginning of a right one is found by trying what could
+//! The words of nngcat, read in the simplest way, from only their rules: a list is cut into options, and the rules are
+//! then checked over the whole list. How far a list can be the beginning of a right one is found by trying what could
 //! follow. Slow, and only for comparing.
 
 use crate::checks::made;
@@ -20,7 +20,7 @@ const VALUED: &str = "\
 --recv-timeout
 --send-timeout";
 
-/// The options for roles, one a line. Each may have a 0 behind it.
+/// The options for roles, one a line. Each may have a 0 after it.
 const ROLES: &str = "\
 --pair
 --pub
@@ -33,16 +33,16 @@ const ROLES: &str = "\
 --respondent
 --bus";
 
-/// What an option is.
+/// The kind of an option.
 #[derive(Clone, Copy, Debug, PartialEq, Eq)]
 pub enum OptionKind {
     Role(Role),
     Format(Format),
-    /// One with a value, by its number.
+    /// An option with a value, by its number.
     Valued(usize),
 }
 
-/// An option of a list: what it is, and the word and the byte at which its value begins.
+/// An option of a list: its kind, and the word and the byte at which its value begins.
 #[derive(Clone, Copy, Debug)]
 pub struct ListedOption {
     pub kind: OptionKind,
@@ -99,7 +99,7 @@ fn kind_of(text: &[u8]) -> Option<OptionKind> {
     valued_of(text)
 }
 
-/// Where the first `=` of a word stands.
+/// The place of the first `=` of a word.
 fn equals_of(word: &[u8]) -> Option<usize> {
     for i in 0..word.len() {
         if word[i] == b'=' {
@@ -140,7 +140,7 @@ fn option_at(words: &[String], i: usize) -> Option<ListedOption> {
     }
 }
 
-/// The list cut into options; None where it can't be cut so.
+/// The list cut into options; `None` where it can't be cut so.
 pub fn options_of(rt: &impl Abort, alloc: Global, words: &[String]) -> Option<Vec<ListedOption>> {
     let mut list: Vec<ListedOption> = Vec::new(alloc);
     let mut next: usize = 0;
@@ -208,7 +208,7 @@ fn may_be_dialed(addr: &Addr) -> bool {
     }
 }
 
-/// Whether an option of this number takes the value.
+/// Returns whether an option of this number takes the value.
 fn is_value(rt: &impl Abort, alloc: Global, n: usize, value: &[u8]) -> bool {
     match n {
         0 => match address_of(rt, alloc, value) {
@@ -224,7 +224,7 @@ fn is_value(rt: &impl Abort, alloc: Global, n: usize, value: &[u8]) -> bool {
     }
 }
 
-/// How many options of the list have this number.
+/// The number of options of the list with this number.
 pub fn times(list: &[ListedOption], n: usize) -> usize {
     let mut count: usize = 0;
     for said in list {
@@ -235,7 +235,7 @@ pub fn times(list: &[ListedOption], n: usize) -> usize {
     count
 }
 
-/// The last role of the list, and how many there are.
+/// The last role of the list, and the number of roles.
 pub fn roles_of(list: &[ListedOption]) -> (Option<Role>, usize) {
     let mut role = None;
     let mut count: usize = 0;
@@ -248,7 +248,7 @@ pub fn roles_of(list: &[ListedOption]) -> (Option<Role>, usize) {
     (role, count)
 }
 
-/// The last format of the list, and how many there are.
+/// The last format of the list, and the number of formats.
 pub fn formats_of(list: &[ListedOption]) -> (Format, usize) {
     let mut format = Format::None;
     let mut count: usize = 0;
@@ -269,7 +269,7 @@ fn takes_no_data(role: Role) -> bool {
     role == Role::Pull || role == Role::Sub
 }
 
-/// Whether the numbers of the options are right: the table of how often each may come.
+/// Returns whether the numbers of the options are right: each may come only as often as its table says.
 fn is_counted(list: &[ListedOption]) -> bool {
     let (role, roles) = roles_of(list);
     let Some(role) = role else {
@@ -330,12 +330,12 @@ pub fn drill_of(words: &[String]) -> Option<u64> {
     }
 }
 
-/// Whether the list has a plan.
+/// Returns whether the list has a plan.
 pub fn is_right(rt: &impl Abort, alloc: Global, words: &[String]) -> bool {
     drill_of(words).is_some() || plan_of(rt, alloc, words).is_some()
 }
 
-/// What can follow the beginning of a right list: a value that is under way, a role, a body, an end.
+/// What can follow the beginning of a right list: a value that is missing, a role, a body, an end.
 const VALUES: [&str; 4] = ["", "1", "x", "tcp://127.0.0.1:1"];
 
 /// Pushes a word.
@@ -343,7 +343,7 @@ pub fn pushed(rt: &impl Abort, list: &mut Vec<String>, alloc: Global, word: &str
     made(rt, list.push(made(rt, String::from_str(alloc, word))));
 }
 
-/// The prefix with a value behind it, if one is under way.
+/// The prefix followed by a value, if one is missing.
 fn valued(rt: &impl Abort, alloc: Global, prefix: &[String], value: usize) -> Vec<String> {
     let mut list = Vec::new(alloc);
     for word in prefix {
@@ -360,7 +360,7 @@ fn role_name(place: usize) -> Option<&'static str> {
     ROLES.lines().nth(place.checked_sub(1)?)
 }
 
-/// The list with a role, a body and an end behind it, each if it is asked for.
+/// The list followed by a role, a body and an end, each if it is asked for.
 fn followed(
     rt: &impl Abort,
     alloc: Global,
@@ -392,7 +392,7 @@ fn is_right_with_role(rt: &impl Abort, alloc: Global, prefix: &[String], role: u
     false
 }
 
-/// Whether something can follow these words, which are whole options.
+/// Returns whether something can follow these words, which are whole options.
 fn is_right_with_more(rt: &impl Abort, alloc: Global, prefix: &[String], has_role: bool) -> bool {
     if is_right_with_role(rt, alloc, prefix, 0) {
         return true;
@@ -419,7 +419,7 @@ fn is_right_with_value(rt: &impl Abort, alloc: Global, prefix: &[String], value:
     }
 }
 
-/// Whether the words are a prefix of some right list.
+/// Returns whether the words are a prefix of some right list.
 pub fn is_prefix(rt: &impl Abort, alloc: Global, prefix: &[String]) -> bool {
     for value in 0..5usize {
         if is_right_with_value(rt, alloc, prefix, value) {
@@ -429,7 +429,7 @@ pub fn is_prefix(rt: &impl Abort, alloc: Global, prefix: &[String]) -> bool {
     false
 }
 
-/// How many words the longest prefix has with which some right list begins.
+/// The number of words of the longest prefix with which some right list begins.
 pub fn stop_of(rt: &impl Abort, alloc: Global, words: &[String]) -> usize {
     let mut most: usize = 0;
     for n in 0..words.len() {

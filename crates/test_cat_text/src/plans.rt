@@ -1,4 +1,4 @@
-//! Which plan words are read as: a plan is shown as a text and compared with it.
+//! The plans that words are read as, compared as texts.
 
 use crate::checks::{holds, made, same, same_at};
 use crate::rows::words_of;
@@ -95,7 +95,7 @@ fn show_words(rt: &impl Abort, alloc: Global, list: &[String]) -> String {
     }
 }
 
-/// The words of each row have the plan that stands behind the bar.
+/// Checks that the words of each row have the plan after the bar.
 pub fn check_plans(rt: &impl Abort, alloc: Global, rows: &str) {
     let mut number: u32 = 0;
     for row in rows.lines() {
@@ -226,7 +226,7 @@ fn data_of(rt: &impl Abort, alloc: Global, row: &str, value: &str) -> Data {
     }
 }
 
-// Whether a push with this text sends these bytes.
+// Returns whether a push with this text sends these bytes.
 fn sends(rt: &impl Abort, alloc: Global, text: &str, bytes: &[u8]) -> bool {
     match data_of(rt, alloc, "--push --listen A --data", text) {
         Data::Text(data_) => data_.as_slice() == bytes,
@@ -234,7 +234,7 @@ fn sends(rt: &impl Abort, alloc: Global, text: &str, bytes: &[u8]) -> bool {
     }
 }
 
-// Whether a push with this name sends the file of this name.
+// Returns whether a push with this name sends the file of this name.
 fn sends_file(rt: &impl Abort, alloc: Global, name: &str) -> bool {
     match data_of(rt, alloc, "--push --listen A --file", name) {
         Data::File(file) => file.as_slice() == name.as_bytes(),
@@ -249,7 +249,7 @@ fn data_are_the_bytes_of_the_text(rt: HostRuntime) {
     holds(&rt, sends(&rt, rt.alloc(), "\u{20ac}a\u{1f600}", bytes));
 }
 
-// A text, and so many times a piece.
+// A text, followed by `times` times a piece.
 fn repeated(rt: &impl Abort, alloc: Global, begin: &str, piece: &str, times: u32) -> String {
     let mut text = made(rt, String::from_str(alloc, begin));
     for _ in 0..times {
@@ -263,7 +263,7 @@ fn long_data_and_long_names_are_read(rt: HostRuntime) {
     let name = repeated(&rt, rt.alloc(), "", "a", 4_096);
     same(&rt, name.len(), 4_096);
     holds(&rt, sends_file(&rt, rt.alloc(), name.as_str()));
-    // The longest word that Linux hands to a program.
+    // The longest word that Linux passes to a program.
     let text = repeated(&rt, rt.alloc(), "", "a", 131_071);
     same(&rt, text.len(), 131_071);
     holds(&rt, sends(&rt, rt.alloc(), text.as_str(), text.as_bytes()));

@@ -1,9 +1,9 @@
-//! Rows of a text, one a line. The words of a row stand between single spaces.
+//! Rows of a text, one a line. The words of a row have single spaces between them.
 use crate::checks::made;
 use std::alloc::Global;
 use std::process::Abort;
 
-// What a word of a row stands for: two apostrophes for the empty word, `A` and `B` for addresses, each other word for
+// The meaning of a word of a row: two apostrophes for the empty word, `A` and `B` for addresses, each other word for
 // itself.
 fn meant(word: &str) -> &str {
     match word {
@@ -14,7 +14,7 @@ fn meant(word: &str) -> &str {
     }
 }
 
-/// The words of a row as a list; an empty text has none.
+/// The words of a row as a list; an empty row has none.
 pub fn words_of(rt: &impl Abort, alloc: Global, row: &str) -> Vec<String> {
     let mut list = Vec::new(alloc);
     if row.is_empty() {
@@ -27,7 +27,7 @@ pub fn words_of(rt: &impl Abort, alloc: Global, row: &str) -> Vec<String> {
     list
 }
 
-/// The bytes of a text: two hex digits a byte up to an apostrophe, and behind it the bytes themselves.
+/// The bytes of a text: two hex digits a byte up to an apostrophe, and after it the bytes themselves.
 pub fn bytes_of(rt: &impl Abort, alloc: Global, text: &str) -> Option<Vec<u8>> {
     let (digits, rest) = text.split_once('\'')?;
     let mut bytes = made(rt, hex::decode(alloc, digits));

@@ -1,4 +1,4 @@
-//! Closes, deadlines, and the numbers of causes.
+//! Closing, deadlines, and the numbers of causes.
 use crate::checks::same;
 use crate::roles::{pull_plays, push_plays, sub_plays};
 use sp_base::{Role, SpError};

@@ -1,4 +1,4 @@
-//! Pipes that fail where they are asked for room.
+//! Pipes that fail when they are asked for room.
 use crate::roles::{pair_plays, publisher_plays, req_plays};
 
 #[test]

@@ -1,4 +1,4 @@
-//! Limits of hops, the shortest frames, times and headers of requests, and who gets what is kept.
+//! Limits of hops, the shortest frames, times and headers of requests, and who gets queued messages.
 use crate::roles::{rep_plays, rep_plays_with, req_plays, req_plays_with};
 use sp_base::Role;
 use sp_history::setting::Options;
@@ -22,7 +22,7 @@ fn one_hop_is_all_where_the_limit_is_one(rt: HostRuntime) {
 
 #[test]
 fn fifteen_words_make_a_header_of_64_bytes(rt: HostRuntime) {
-    // Fourteen words without the top bit, one with it, and a body; the pipe's number stands before these words.
+    // Fourteen words without the top bit, one with it, and a body; the pipe's number comes before these words.
     let calls = "
         joins 0 8 1 000000010000000100000001000000010000000100000001000000010000000100000001000000010000000100000001\
             000000010000000180000005'q
@@ -56,7 +56,7 @@ fn the_empty_frame_is_malformed(rt: HostRuntime) {
     rep_plays(&rt, true, calls, "");
 }
 
-// Its wire fails where the reply to the first one asks for room.
+// Its wire fails when it is asked for room for the reply to the first request.
 #[test]
 fn a_request_of_a_pipe_that_went_down_is_gone(rt: HostRuntime) {
     let calls = "
@@ -102,7 +102,7 @@ fn a_raw_request_goes_out_as_header_and_body(rt: HostRuntime) {
     req_plays(&rt, true, 0, calls, wires);
 }
 
-// The immediate receive finds that the receive before it was cancelled, which gave the request up.
+// The immediate receive finds that the receive before it was cancelled, which dropped the request.
 #[test]
 fn nothing_comes_at_once_behind_a_receive_that_was_cancelled(rt: HostRuntime) {
     let calls = "
@@ -147,7 +147,7 @@ fn a_reply_of_three_bytes_is_malformed(rt: HostRuntime) {
     req_plays(&rt, false, 0, calls, "");
 }
 
-// Over all contexts.
+// The order is that of all contexts together.
 #[test]
 fn the_receive_that_began_first_gets_the_request(rt: HostRuntime) {
     let calls = "

@@ -11,7 +11,7 @@ use std::process::Abort;
 use std::sync::Wait;
 use test_core_plays::CorePlay;
 
-// A core over the machine, which is a pair's, has one peer at a time.
+// Checks that a core over the machine, which is a pair's, has one peer at a time.
 fn has_one_peer<P: Proto + Drop, R: AllocGlobal + Wait + Abort>(rt: &R, machine: P)
     requires { (k : Kind) × Starts P.ties machine k }
 {
@@ -54,7 +54,7 @@ fn sends_wait_for_a_peer_in_their_order(rt: HostRuntime) {
         sent
         close 2 2 0 0 2 0
     ";
-    // A header stays at home.
+    // A header isn't sent.
     let wires = "put 1 'a 'b";
     pair_plays(&rt, true, calls, wires);
 }

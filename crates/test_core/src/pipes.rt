@@ -125,7 +125,7 @@ fn giving<R: AllocGlobal + Abort>(rt: &R) -> PlayWire
     }
 }
 
-// Of two cores the first is closed, and the second takes the wire that came back, which gives its message.
+// Closes the first of two cores, and checks that the second takes the wire that came back, which gives its message.
 fn takes_what_came_back<P: Proto + Drop, R: AllocGlobal + Wait + Abort>(rt: &R, one: P, other: P)
     requires one { (k : Kind) × Starts P.ties one k }
     requires other { (k : Kind) × Starts P.ties other k }
@@ -157,14 +157,14 @@ fn a_wire_comes_back_after_the_close(rt: HostRuntime) {
     takes_what_came_back(&rt, pull(&rt, false), pull(&rt, true));
 }
 
-// A value that could stand behind the turn lock.
+// A value that could be the state of a turn lock.
 fn behind_a_lock<S: Stands>(state: S) -> S
     ensures { result ≡ state }
 {
     state
 }
 
-// The machine that an empty core hands back gives a message over another core.
+// Checks that the machine that an empty core hands back gives a message over another core.
 fn comes_back<P: Proto + Drop, R: AllocGlobal + Wait + Abort>(rt: &R, machine: P)
     requires { (k : Kind) × Starts P.ties machine k }
 {

@@ -1,4 +1,4 @@
-//! What a race that is lost, a deadline and a context that is shut do to a request.
+//! The effect of a lost race, a deadline and a shut context on a request.
 use crate::roles::{rep_plays, req_plays};
 
 #[test]
@@ -58,7 +58,7 @@ fn a_request_that_meets_a_cancelled_receive_stays_for_the_next_one(rt: HostRunti
 
 #[test]
 fn a_begin_finds_the_receive_that_was_cancelled_ended(rt: HostRuntime) {
-    // Of a req it has given its request up, of a rep it has left its place.
+    // With a req it has dropped its request, with a rep it has left its place.
     let req = "
         joins 0 8 1 pause
         send 0 ' 'q

@@ -1,4 +1,4 @@
-//! Receives that wait, that are cancelled, and that take what is kept.
+//! Receives that wait, that are cancelled, and that take queued messages.
 use crate::checks::holds;
 use crate::roles::{pull_plays, push_plays};
 use sp_base::SpError;

@@ -1,9 +1,9 @@
-//! Replies, of rep and of respondent alike: backtraces, and pipes that are down or full.
+//! Replies of both rep and respondent: backtraces, and pipes that are down or full.
 use crate::roles::{rep_plays, respondent_plays};
 use std::process::Abort;
 use std::sync::Wait;
 
-// A rep and a respondent both return at each line what it says, and end with these wires.
+// Checks that a rep and a respondent both return what each line says, and end with these wires.
 fn both_play<R: AllocGlobal + Wait + Abort>(rt: &R, raw: bool, calls: &str, wires: &str) {
     rep_plays(rt, raw, calls, wires);
     respondent_plays(rt, raw, calls, wires);
@@ -28,7 +28,7 @@ fn a_reply_goes_back_by_its_backtrace(rt: HostRuntime) {
 
 #[test]
 fn a_frame_that_is_cut_short_closes_its_pipe_alone(rt: HostRuntime) {
-    // What came too far is dropped, whether or not anything is behind it: nine words without the top bit, and eight.
+    // What came too far is dropped, whether or not anything follows: nine words without the top bit, and eight.
     let calls = "
         joins 0 0 1 00000001'
         joins 1 8 2 000000010000000100000001000000010000000100000001000000010000000100000001' 0000000100000001\
@@ -47,7 +47,7 @@ fn a_frame_that_is_cut_short_closes_its_pipe_alone(rt: HostRuntime) {
 
 #[test]
 fn a_reply_goes_back_by_eight_words(rt: HostRuntime) {
-    // Behind nine words without the top bit, seven that a word with it and a body follow.
+    // After nine words without the top bit come seven more, then a word with it and a body.
     let calls = "
         joins 0 8 1 000000010000000100000001000000010000000100000001000000010000000100000001' 0000000100000001\
             000000010000000100000001000000010000000180000005'q

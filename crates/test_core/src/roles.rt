@@ -1,4 +1,5 @@
-//! A core over the machine of each role plays a text. Each machine is written out in one place: that is dear to prove.
+//! Plays texts on cores over the machines of all roles. Each machine is written out in one place, since that is costly
+//! to prove.
 ghost use Rattle.std.specs.Prelude.{◌≡◌, ◌<◌, ◌≤◌, IfOk};
 ghost use Rattle.sp_history.specs.Options.{Fits};
 ghost use Rattle.sp_proto.specs.Kinds.{Kind, Starts};
@@ -19,7 +20,7 @@ use std::sync::Wait;
 use test_core_driver::Driver;
 use test_core_plays::{CorePlay, PlayWire};
 
-/// A core over the machine, of so many slots, with the operations that one caller began.
+/// A core of `slots` slots over the machine, with the operations that one caller began.
 pub fn driver<P: Proto + Drop, R: AllocGlobal + Abort>(
     rt: &R,
     machine: P,
@@ -34,7 +35,7 @@ pub fn driver<P: Proto + Drop, R: AllocGlobal + Abort>(
     }
 }
 
-/// The core returns at each line what it says, and ends with these wires.
+/// Checks that the core returns what each line says, and ends with these wires.
 pub fn driver_plays<P: Proto, R: AllocGlobal + Wait + Abort>(
     rt: &R,
     driver: Driver<P, PlayWire>,
@@ -46,7 +47,7 @@ pub fn driver_plays<P: Proto, R: AllocGlobal + Wait + Abort>(
     is_right(rt, play.wrong_wire(rt, rt.alloc(), wires));
 }
 
-/// A core over the machine, of so many slots, returns at each line what it says, and ends with these wires.
+/// Checks that a core of `slots` slots over the machine returns what each line says, and ends with these wires.
 pub fn plays<P: Proto + Drop, R: AllocGlobal + Wait + Abort>(
     rt: &R,
     machine: P,
@@ -70,7 +71,7 @@ pub fn pull<R: AllocGlobal + Abort>(rt: &R, raw: bool) -> Pull
     }
 }
 
-/// A core over a pull, raw or not, returns at each line what it says, and ends with these wires.
+/// Checks that a core over a pull, raw or not, returns what each line says, and ends with these wires.
 pub fn pull_plays<R: AllocGlobal + Wait + Abort>(
     rt: &R,
     raw: bool,
@@ -83,7 +84,7 @@ pub fn pull_plays<R: AllocGlobal + Wait + Abort>(
     plays(rt, pull(rt, raw), slots, calls, wires);
 }
 
-/// The same over a push, raw or not.
+/// Checks the same over a push, raw or not.
 pub fn push_plays<R: AllocGlobal + Wait + Abort>(
     rt: &R,
     raw: bool,
@@ -109,12 +110,12 @@ pub fn pair<R: AllocGlobal + Abort>(rt: &R, raw: bool) -> Pair
     }
 }
 
-/// A core of 16 slots over a pair, raw or not, returns at each line what it says, and ends with these wires.
+/// Checks that a core of 16 slots over a pair, raw or not, returns what each line says, and ends with these wires.
 pub fn pair_plays<R: AllocGlobal + Wait + Abort>(rt: &R, raw: bool, calls: &str, wires: &str) {
     plays(rt, pair(rt, raw), 16, calls, wires);
 }
 
-/// The same over a bus with these options.
+/// Checks the same over a bus with these options.
 pub fn bus_plays<R: AllocGlobal + Wait + Abort>(
     rt: &R,
     options: Options,
@@ -128,7 +129,7 @@ pub fn bus_plays<R: AllocGlobal + Wait + Abort>(
     }
 }
 
-/// The same over a pub.
+/// Checks the same over a pub.
 pub fn publisher_plays<R: AllocGlobal + Wait + Abort>(rt: &R, calls: &str, wires: &str) {
     match Publish::new(rt.alloc(), Options::usual(Role::Pub, 0), false) {
         Ok(machine) => plays(rt, machine, 16, calls, wires),
@@ -136,7 +137,7 @@ pub fn publisher_plays<R: AllocGlobal + Wait + Abort>(rt: &R, calls: &str, wires
     }
 }
 
-/// The same over a sub with these options.
+/// Checks the same over a sub with these options.
 pub fn sub_plays<R: AllocGlobal + Wait + Abort>(
     rt: &R,
     options: Options,
@@ -150,7 +151,7 @@ pub fn sub_plays<R: AllocGlobal + Wait + Abort>(
     }
 }
 
-/// The same over a req with these options.
+/// Checks the same over a req with these options.
 pub fn req_plays_with<R: AllocGlobal + Wait + Abort>(
     rt: &R,
     options: Options,
@@ -166,7 +167,7 @@ pub fn req_plays_with<R: AllocGlobal + Wait + Abort>(
     }
 }
 
-/// The same over a req, raw or not, whose ids begin there.
+/// Checks the same over a req, raw or not, whose ids begin at `dice`.
 pub fn req_plays<R: AllocGlobal + Wait + Abort>(
     rt: &R,
     raw: bool,
@@ -196,7 +197,7 @@ fn replier(
     }
 }
 
-// A core over a rep, or over a respondent, plays.
+// Plays a text on a core over a rep, or over a respondent.
 fn replier_plays<R: AllocGlobal + Wait + Abort>(
     rt: &R,
     is_respondent: bool,
@@ -213,7 +214,7 @@ fn replier_plays<R: AllocGlobal + Wait + Abort>(
     }
 }
 
-/// The same over a rep with these options.
+/// Checks the same over a rep with these options.
 pub fn rep_plays_with<R: AllocGlobal + Wait + Abort>(
     rt: &R,
     options: Options,
@@ -226,12 +227,12 @@ pub fn rep_plays_with<R: AllocGlobal + Wait + Abort>(
     replier_plays(rt, false, options, raw, calls, wires);
 }
 
-/// The same over a rep, raw or not.
+/// Checks the same over a rep, raw or not.
 pub fn rep_plays<R: AllocGlobal + Wait + Abort>(rt: &R, raw: bool, calls: &str, wires: &str) {
     replier_plays(rt, false, Options::usual(Role::Rep, 0), raw, calls, wires);
 }
 
-/// The same over a respondent, raw or not.
+/// Checks the same over a respondent, raw or not.
 pub fn respondent_plays<R: AllocGlobal + Wait + Abort>(
     rt: &R,
     raw: bool,
@@ -248,7 +249,7 @@ pub fn respondent_plays<R: AllocGlobal + Wait + Abort>(
     );
 }
 
-/// The same over a surveyor, raw or not.
+/// Checks the same over a surveyor, raw or not.
 pub fn surveyor_plays<R: AllocGlobal + Wait + Abort>(rt: &R, raw: bool, calls: &str, wires: &str) {
     match Survey::new(rt.alloc(), Options::usual(Role::Surveyor, 0), raw) {
         Ok(machine) => plays(rt, machine, 16, calls, wires),

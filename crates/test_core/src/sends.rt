@@ -27,7 +27,7 @@ fn a_send_leaves_its_header_out(rt: HostRuntime) {
     push_plays(&rt, false, 1, calls, "put 1 'x");
 }
 
-// A pull begins no send, and a push no receive.
+// Checks that a pull begins no send, and a push no receive.
 fn what_the_role_does_not_do<R: AllocGlobal + Wait + Abort>(rt: &R, raw: bool) {
     let of_pull = "no_send 0 00000007' 'x 9";
     pull_plays(rt, raw, 1, of_pull, "");

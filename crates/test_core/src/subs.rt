@@ -5,7 +5,8 @@ use sp_history::setting::Options;
 use std::process::Abort;
 use std::sync::Wait;
 
-// A core over a sub that keeps two messages a context returns at each line what it says, and ends with these wires.
+// Checks that a core over a sub that keeps two messages a context returns what each line says, and ends with these
+// wires.
 fn small_sub_plays<R: AllocGlobal + Wait + Abort>(
     rt: &R,
     raw: bool,

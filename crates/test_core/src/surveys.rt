@@ -1,4 +1,4 @@
-//! Surveys: they go to all, and end at their time or when another one begins.
+//! Surveys: they go to all peers, and end at their time or when another one begins.
 use crate::roles::surveyor_plays;
 
 #[test]

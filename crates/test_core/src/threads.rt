@@ -10,7 +10,7 @@ fn is_send<T: Send>() {}
 
 fn is_sync<T: Sync>() {}
 
-// A core, and what is left of it, go wherever machine and wire may go.
+// A core, and what is left of it, may go wherever machine and wire may go.
 fn is_send_over<P: Proto + Send, W: Wire + Send>() {
     is_send::<Core<P, W>>();
     is_send::<WireList<W>>();

@@ -1,4 +1,4 @@
--- What a turn of caller 1 does to a core that it drives, and to the operations that are open.
+-- What a turn of caller 1 does to a core that it drives, and to its open operations.
 use Rattle.std.proofs.Common.{◌≡◌, refl, ap, sym, ◌∙◌, subst, List, [], ◌∷◌, ◌++◌, ℕ, zero, suc, ◌+◌, ◌≤◌, ◌<◌, Bool, true, false, cond, arith, Option, Some, None, Result, Ok, Err, inl, inr}
 use Rattle.std.specs.Prelude.{⊤}
 use Rattle.std.proofs.lemmas.Bool.Decides.{nat_tests}
@@ -273,7 +273,7 @@ module _ {P W : Type 0} (ties : P → Moment → Type 0) (room : P → ℕ) (sho
         other_seat = p.other_seat;
       }
 
-  -- the operation that was begun first of those that are open stands last as well
+  -- the open operation that began first may be the last as well
   pub last_one : (c : Core P W) (s o : Sight) (n : ℕ) (ops more : List OpName) (op : OpName) → Drives ties room shown c s o n ops → ops ≡ op ∷ more → Drives ties room shown c s o n (more ++ op ∷ [])
   last_one c s o n ops more op p is = held_alike c s o n ops (more ++ op ∷ []) p (λ x. count_turned op more x ∙ sym (ap (λ (l : List OpName). count_of l x) is))
 

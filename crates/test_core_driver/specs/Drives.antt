@@ -1,4 +1,4 @@
--- A core that one caller drives: it stands for a history in which the caller's operations are open.
+-- A core that one caller drives: it has a history in which the caller's operations are open.
 use Rattle.std.specs.Prelude.{◌≡◌, ◌≤◌, ◌<◌, ◌+◌, ℕ, if◌then◌else◌, List, [], ◌∷◌, Some}
 use Rattle.turn_lock.specs.declared.turn.Turn.{Turn}
 use Rattle.sp_base.specs.declared.OpName.{OpName}
@@ -13,7 +13,7 @@ use Rattle.sp_core.specs.Cores.{callers_of, slots_of, words_of}
 use Rattle.sp_core.specs.declared.owner.Core.{Core}
 use Rattle.sp_core.specs.Standing.{StandsFor}
 
--- how often the operation stands in the list
+-- how often the operation is in the list
 abbrev pub count_of : List OpName → OpName → ℕ
 count_of [] op = 0
 count_of (o ∷ ops) op = if same_op o op then count_of ops op + 1 else count_of ops op
@@ -23,7 +23,7 @@ abbrev pub AreHeld : List Entry → List OpName → Type 0
 AreHeld past ops =
     (op : OpName) → (count_of ops op + took_count past op ≤ begin_count past op) × (0 < count_of ops op → caller_of past op ≡ Some 1)
 
--- a core, the seats of its two callers, the slots, and the operations of caller 1 that are open
+-- a core, the seats of its two callers, the slots, and the open operations of caller 1
 pub record Drives {P W : Type 0} (ties : P → Moment → Type 0) (room : P → ℕ) (shown : W → WireView) (core : Core P W) (seat other : Sight) (slots : ℕ) (ops : List OpName) : Type 0 where
   pub history : List (Turn Entry)
   pub stands : StandsFor ties room shown core history

@@ -1,7 +1,7 @@
-//! The calls of a core as its driver makes them: each by caller 1, and each operation that it begins is kept.
+//! The calls of a core as its driver makes them: each is made by caller 1, and each operation that it begins is kept.
 //!
-//! What must hold before a call of a core (it stands for a history in which the kept operations are open) is the
-//! invariant of `Driver`. So its calls ask for nothing, and a test over them has nothing to prove but its own tests.
+//! What must hold before a call of a core (it has a history in which the kept operations are open) is the invariant of
+//! `Driver`. So its calls require nothing, and a test over them has only its own checks to prove.
 ghost use Rattle.std.specs.Prelude.{◌≡◌, ◌<◌, ◌≤◌, ℕ, IfErr};
 ghost use Rattle.sp_proto.specs.Kinds.{Kind, Starts};
 ghost use Rattle.core_state.specs.Wires.{IsUnused};
@@ -26,11 +26,11 @@ use std::sync::Wait;
 pub struct Driver<P: Proto, W: Wire> {
     core: Core<P, W>,
     seat: CallSeat,
-    /// That of caller 2, who only cancels.
+    /// The seat of caller 2, which only cancels.
     other: CallSeat,
-    /// How many slots the core has.
+    /// The number of the core's slots.
     slots: u32,
-    /// In the order of their begins, but for what `swap` and `collect_first` change.
+    /// The open operations, in the order in which they began, except for what `swap` and `collect_first` change.
     ops: VecDeque<Op>,
 }
 
@@ -68,7 +68,7 @@ fn take_all<W: Drop, R: Wait>(
 }
 
 impl<P: Proto + Drop, W: Wire> Driver<P, W> {
-    /// A core of so many slots, 1 to 4,096, to which nothing has happened.
+    /// A new core of `slots` slots, 1 to 4,096.
     pub fn new(alloc: Global, proto: P, slots: u32) -> Result<Driver<P, W>, NoMemory>
         requires slots { (0 < slots) × (slots ≤ 4096) }
         requires starts { (k : Kind) × Starts P.ties proto k }
@@ -145,7 +145,7 @@ impl<P: Proto, W: Wire> Driver<P, W> {
         self.core.try_recv(rt, 1, c)
     }
 
-    /// Cancels the operation. None without memory.
+    /// Cancels the operation. `None` without memory.
     pub fn cancel(&mut self, op: OpName) -> Option<Raced> {
         match self.core.words() {
             Err(_) => None,
@@ -153,7 +153,7 @@ impl<P: Proto, W: Wire> Driver<P, W> {
         }
     }
 
-    /// Cancels the operation, by caller 2. None without memory.
+    /// Cancels the operation, by caller 2. `None` without memory.
     pub fn cancel_by_other(&mut self, op: OpName) -> Option<Raced> {
         match self.core.words() {
             Err(_) => None,
@@ -161,7 +161,7 @@ impl<P: Proto, W: Wire> Driver<P, W> {
         }
     }
 
-    /// Ends the operation for its deadline. None without memory.
+    /// Lets the operation time out. `None` without memory.
     pub fn expire(&mut self, op: OpName) -> Option<Raced> {
         match self.core.words() {
             Err(_) => None,
@@ -169,7 +169,7 @@ impl<P: Proto, W: Wire> Driver<P, W> {
         }
     }
 
-    /// How the operation stands, as caller 1 reads it. None without memory.
+    /// The state of the operation, as caller 1 reads it. `None` without memory.
     pub fn poll(&mut self, op: OpName) -> Option<Polled> {
         match self.core.words() {
             Err(_) => None,
@@ -177,7 +177,7 @@ impl<P: Proto, W: Wire> Driver<P, W> {
         }
     }
 
-    /// The moment is this tick. The operations that are due then.
+    /// Moves the core's time to this tick, and returns the operations that are due.
     pub fn tick<R: Wait>(
         &mut self,
         rt: &R,
@@ -189,14 +189,14 @@ impl<P: Proto, W: Wire> Driver<P, W> {
         Ok(names)
     }
 
-    /// How many operations are open.
+    /// The number of open operations.
     pub fn open_count(&self) -> usize
         ensures { result ≡ self.now }
     {
         self.ops.len()
     }
 
-    /// Of the two operations that were begun last the earlier one is collected first. Nothing where fewer are open.
+    /// Swaps the order of the two operations that began last. Does nothing where fewer are open.
     pub fn swap(&mut self) {
         let Some(last) = self.ops.pop_back() else {
             return;
@@ -210,7 +210,7 @@ impl<P: Proto, W: Wire> Driver<P, W> {
         }
     }
 
-    /// Collects the operation that was begun first of those that are open, if that has ended. Else it is the last then.
+    /// Collects the open operation that began first, if it has ended. Otherwise that operation becomes the last.
     pub fn collect_first<R: Wait>(&mut self, rt: &R) -> Option<Outcome> {
         match self.ops.pop_front() {
             None => None,
@@ -224,7 +224,7 @@ impl<P: Proto, W: Wire> Driver<P, W> {
         }
     }
 
-    /// Collects the operation that was begun last of those that are open, if that has ended.
+    /// Collects the open operation that began last, if it has ended.
     pub fn collect<R: Wait>(&mut self, rt: &R) -> Option<Outcome> {
         match self.ops.pop_back() {
             None => None,
@@ -250,12 +250,12 @@ impl<P: Proto, W: Wire> Driver<P, W> {
         self.core.close_ctx(rt, 1, c)
     }
 
-    /// Puts a topic on for the context.
+    /// Subscribes the context to a topic.
     pub fn subscribe<R: Wait>(&mut self, rt: &R, c: Ctx, topic: &[u8]) -> Result<(), TopicError> {
         self.core.subscribe(rt, 1, c, topic)
     }
 
-    /// Takes a topic off for the context.
+    /// Unsubscribes the context from a topic.
     pub fn unsubscribe<R: Wait>(&mut self, rt: &R, c: Ctx, topic: &[u8]) -> Result<(), TopicError> {
         self.core.unsubscribe(rt, 1, c, topic)
     }
@@ -295,7 +295,8 @@ impl<P: Proto, W: Wire> Driver<P, W> {
 }
 
 impl<P: Proto, W: Wire + Drop> Driver<P, W> {
-    /// Closes the core, collects what is open, and ends it. The wires that were not taken, the last one first.
+    /// Closes the core, collects the open operations, and ends it. Returns the wires that were not taken, the last one
+    /// first.
     pub fn finish<R: Wait>(self, rt: &R, alloc: Global) -> Result<Vec<(PipeId, W)>, NoMemory> {
         let mut driver = self;
         driver.close(rt);

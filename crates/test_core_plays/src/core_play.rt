@@ -1,4 +1,4 @@
-//! A core plays a text.
+//! Plays a text on a core.
 use crate::line::{PlayLine, call_of};
 use crate::results::{
     down, is_asked, is_back, is_gone, is_message, is_put, is_received, is_sent, message, now_code,
@@ -29,8 +29,8 @@ impl<P: Proto> CorePlay<P> {
         }
     }
 
-    /// Goes on with the calls of this text. The number of the first line that is wrong, or whose call returns something
-    /// else, from 1 on.
+    /// Goes on with the calls of this text. Returns the number (from 1 on) of the first line that is wrong or whose
+    /// call returns something else.
     pub fn wrong_line<R: Wait>(&mut self, rt: &R, alloc: Global, calls: &str) -> Option<usize> {
         for (at, line) in calls.lines().enumerate() {
             if let Some(call) = call_of(line)
@@ -42,8 +42,8 @@ impl<P: Proto> CorePlay<P> {
         None
     }
 
-    /// A wire that gives this is refused at the first place for this cause. After these calls it becomes this pipe at
-    /// the second one.
+    /// Attaches a wire that gives this, which is refused at the first place for this cause. After these calls it
+    /// becomes this pipe at the second place.
     pub fn comes_again<R: Wait>(
         &mut self,
         rt: &R,
@@ -69,8 +69,9 @@ impl<P: Proto> CorePlay<P> {
         }
     }
 
-    /// Ends the core. The wires that were not taken are those of this text, in the order of their pipes: the number of
-    /// the first line that is wrong, from 1 on, or 0 where an operation is open or there is no memory.
+    /// Ends the core, and compares the wires that were not taken with those of this text, in the order of their pipes.
+    /// Returns the number (from 1 on) of the first line that is wrong, or 0 where an operation is open or there is no
+    /// memory.
     pub fn wrong_wire<R: Wait>(self, rt: &R, alloc: Global, wires: &str) -> Option<usize> {
         let CorePlay { driver, names: _ } = self;
         let is_done = driver.open_count() == 0;
@@ -86,8 +87,8 @@ impl<P: Proto> CorePlay<P> {
         }
     }
 
-    // The line is right, and its call returns what it says. Each part knows some of the calls, and finds none of the
-    // others right.
+    // Returns whether the line is right, and its call returns what it says. Each part knows some of the calls, and
+    // returns `false` for the others.
     fn is_right<R: Wait>(&mut self, rt: &R, alloc: Global, call: &str) -> bool {
         let mut line = PlayLine::new(alloc, call);
         let name = line.word();
@@ -104,7 +105,7 @@ impl<P: Proto> CorePlay<P> {
         is_right && line.is_read()
     }
 
-    // A wire that takes so many messages and gives the rest of the line becomes a pipe. Its number.
+    // Attaches a wire that takes `most` messages and gives the rest of the line, and returns its pipe's number.
     fn attach<R: Wait>(
         &mut self,
         rt: &R,
@@ -124,7 +125,7 @@ impl<P: Proto> CorePlay<P> {
         }
     }
 
-    // Pipes that come up, and links that become none.
+    // Plays a call for pipes that come up, and links that become none.
     fn joins<R: Wait>(
         &mut self,
         rt: &R,
@@ -168,7 +169,7 @@ impl<P: Proto> CorePlay<P> {
         }
     }
 
-    // Pipes that are served, and that are down.
+    // Plays a call for pipes that are served, and that are down.
     fn serves<R: Wait>(&mut self, rt: &R, name: &str, line: &mut PlayLine<'_>) -> bool {
         match name {
             "serve" => {
@@ -204,7 +205,7 @@ impl<P: Proto> CorePlay<P> {
         }
     }
 
-    // A receive begins, and its name is noted.
+    // Begins a receive, and keeps its name.
     fn receive<R: Wait>(&mut self, rt: &R, c: u32, deadline: Option<Tick>) -> bool {
         match self.driver.begin_recv(rt, Ctx(c), deadline) {
             Ok(name) => self.names.push(name).is_ok(),
@@ -212,7 +213,7 @@ impl<P: Proto> CorePlay<P> {
         }
     }
 
-    // A send of the message begins, and its name is noted.
+    // Begins a send of the message, and keeps its name.
     fn send<R: Wait>(
         &mut self,
         rt: &R,
@@ -229,7 +230,7 @@ impl<P: Proto> CorePlay<P> {
         }
     }
 
-    // Operations that begin.
+    // Plays a call for operations that begin.
     fn begins<R: Wait>(
         &mut self,
         rt: &R,
@@ -260,12 +261,12 @@ impl<P: Proto> CorePlay<P> {
         }
     }
 
-    // The name of the operation that began as the one that the line says.
+    // The name of the operation that the line tells by its order.
     fn name(&self, line: &mut PlayLine<'_>) -> Option<OpName> {
         self.names.get(line.number() as usize).copied()
     }
 
-    // The message is what the line says, and a send of it begins.
+    // Compares the message with the line, and begins a send of it.
     fn passes_on<R: Wait>(&mut self, rt: &R, c: u32, m: Message, line: &mut PlayLine<'_>) -> bool {
         let is_right = is_message(&m, line);
         match self.driver.begin_send(rt, Ctx(c), m, None) {
@@ -274,7 +275,7 @@ impl<P: Proto> CorePlay<P> {
         }
     }
 
-    // Receives at once.
+    // Plays a call that receives at once.
     fn receives_now<R: Wait>(&mut self, rt: &R, name: &str, line: &mut PlayLine<'_>) -> bool {
         match name {
             "now" => match self.driver.try_recv(rt, Ctx(line.number())) {
@@ -300,7 +301,7 @@ impl<P: Proto> CorePlay<P> {
         }
     }
 
-    // Operations that don't begin.
+    // Plays a call for operations that don't begin.
     fn is_refused<R: Wait>(
         &mut self,
         rt: &R,
@@ -330,7 +331,7 @@ impl<P: Proto> CorePlay<P> {
         }
     }
 
-    // Operations that are collected.
+    // Plays a call for operations that are collected.
     fn collects<R: Wait>(&mut self, rt: &R, name: &str, line: &mut PlayLine<'_>) -> bool {
         match name {
             "swap" => {
@@ -347,7 +348,7 @@ impl<P: Proto> CorePlay<P> {
         }
     }
 
-    // Operations that are cancelled, expire and are looked at.
+    // Plays a call for operations that are cancelled, expire and are polled.
     fn races(&mut self, name: &str, line: &mut PlayLine<'_>) -> bool {
         if !matches!(name, "cancel" | "cancel_by_other" | "expire" | "poll") {
             return false;
@@ -363,7 +364,7 @@ impl<P: Proto> CorePlay<P> {
         }
     }
 
-    // Ticks.
+    // Plays a call for ticks.
     fn is_due<R: Wait>(
         &mut self,
         rt: &R,
@@ -383,7 +384,7 @@ impl<P: Proto> CorePlay<P> {
         }
     }
 
-    // Contexts.
+    // Plays a call for contexts.
     fn is_right_of_contexts<R: Wait>(
         &mut self,
         rt: &R,
@@ -407,7 +408,7 @@ impl<P: Proto> CorePlay<P> {
         }
     }
 
-    // Topics.
+    // Plays a call for topics.
     fn is_right_of_topics<R: Wait>(
         &mut self,
         rt: &R,
@@ -441,7 +442,7 @@ impl<P: Proto> CorePlay<P> {
     }
 }
 
-// The number of the first line that isn't right for its wire, from 1 on; the last wire is that of the first line.
+// The number (from 1 on) of the first line that isn't right for its wire; the last wire is that of the first line.
 fn first_wrong(alloc: Global, left: Vec<(PipeId, PlayWire)>, wires: &str) -> Option<usize> {
     let mut left = left;
     let mut count = 0usize;
@@ -464,7 +465,7 @@ fn first_wrong(alloc: Global, left: Vec<(PipeId, PlayWire)>, wires: &str) -> Opt
     }
 }
 
-// The pipe has the number that the line says, and its wire is as it says.
+// Returns whether the pipe has the number that the line says, and its wire is as it says.
 fn is_right_wire(alloc: Global, pipe: u32, wire: &PlayWire, call: &str) -> bool {
     let mut line = PlayLine::new(alloc, call);
     match line.word() {

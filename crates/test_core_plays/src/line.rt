@@ -1,7 +1,7 @@
-//! A line of a play's text, and the words in it.
+//! The lines of a play's text, and the words in them.
 use std::alloc::Global;
 
-/// What a line of a text says without its indentation; none where it is blank or a comment.
+/// What a line of a text says without its indentation; `None` where it is blank or a comment.
 pub fn call_of(line: &str) -> Option<&str> {
     let call = line.trim_start();
     if call.is_empty() || call.starts_with("//") {
@@ -11,7 +11,7 @@ pub fn call_of(line: &str) -> Option<&str> {
     }
 }
 
-/// The bytes that a word stands for, if it is one of bytes and there is memory for them.
+/// The bytes of a word, if it is one of bytes and there is memory for them.
 pub fn bytes_of(alloc: Global, word: &str) -> Option<Vec<u8>> {
     let (digits, text) = word.split_once('\'')?;
     let Ok(mut bytes) = hex::decode(alloc, digits) else {
@@ -23,18 +23,18 @@ pub fn bytes_of(alloc: Global, word: &str) -> Option<Vec<u8>> {
     }
 }
 
-/// A line that is read word by word. A word that is missing, or isn't what is asked for, makes the line wrong, and 0 or
-/// nothing stands in its place.
+/// A line that is read word by word. A word that is missing, or isn't what is asked for, makes the line wrong, and
+/// reads as 0 or nothing.
 #[derive(Clone, Copy)]
 pub struct PlayLine<'a> {
     alloc: Global,
-    /// What was not read; none where all was.
+    /// The part that was not read, or `None` where all was read.
     rest: Option<&'a str>,
     is_wrong: bool,
 }
 
 impl<'a> PlayLine<'a> {
-    /// A line of which nothing was read.
+    /// A line from its start.
     pub fn new(alloc: Global, text: &'a str) -> PlayLine<'a> {
         PlayLine {
             alloc,
@@ -66,7 +66,7 @@ impl<'a> PlayLine<'a> {
         }
     }
 
-    /// The next word is this one.
+    /// Returns whether the next word is `word`.
     pub fn says(&mut self, word: &str) -> bool {
         self.word() == word
     }
@@ -94,7 +94,7 @@ impl<'a> PlayLine<'a> {
         }
     }
 
-    /// The same of a number that may be larger.
+    /// The next word as a number that may be larger.
     pub fn long(&mut self) -> u64 {
         match self.word().parse::<u64>() {
             Ok(number) => number,
@@ -105,7 +105,7 @@ impl<'a> PlayLine<'a> {
         }
     }
 
-    /// The bytes that the next word stands for.
+    /// The bytes of the next word.
     pub fn bytes(&mut self) -> Vec<u8> {
         match bytes_of(self.alloc, self.word()) {
             Some(bytes) => bytes,
@@ -116,7 +116,7 @@ impl<'a> PlayLine<'a> {
         }
     }
 
-    /// So many zeros as the next word says.
+    /// As many zeros as the next word says.
     pub fn zeros(&mut self) -> Vec<u8> {
         let count = self.number() as usize;
         match vec![in self.alloc; 0u8; count] {
@@ -128,7 +128,7 @@ impl<'a> PlayLine<'a> {
         }
     }
 
-    /// What was not read, to its end.
+    /// The rest of the line.
     pub fn rest(&mut self) -> &'a str {
         match self.rest {
             Some(text) => {
@@ -139,7 +139,7 @@ impl<'a> PlayLine<'a> {
         }
     }
 
-    /// Every word was read, and each was what was asked for.
+    /// Returns whether every word was read, and each was what was asked for.
     pub fn is_read(&self) -> bool {
         !self.is_wrong && self.rest.is_none()
     }

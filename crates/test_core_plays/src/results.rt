@@ -1,4 +1,4 @@
-//! What is compared of a result.
+//! The comparisons of results with lines.
 use crate::line::PlayLine;
 use crate::wires::PlayWire;
 use crate::words::{cause_word, why_word};
@@ -26,12 +26,12 @@ pub fn message(alloc: Global, line: &mut PlayLine<'_>) -> Option<Message> {
     Some(m)
 }
 
-/// The message is what the line says.
+/// Returns whether the message is what the line says.
 pub fn is_message(m: &Message, line: &mut PlayLine<'_>) -> bool {
     m.header() == line.bytes().as_slice() && m.body() == line.bytes().as_slice()
 }
 
-/// It received what the line says.
+/// Returns whether it received what the line says.
 pub fn is_received(outcome: Option<Outcome>, line: &mut PlayLine<'_>) -> bool {
     match outcome {
         Some(Outcome::Received(m)) => is_message(&m, line),
@@ -39,12 +39,12 @@ pub fn is_received(outcome: Option<Outcome>, line: &mut PlayLine<'_>) -> bool {
     }
 }
 
-/// It was a send that was won.
+/// Returns whether it was a send that was won.
 pub fn is_sent(outcome: Option<Outcome>) -> bool {
     matches!(outcome, Some(Outcome::Sent))
 }
 
-/// It is gone as the line says, and nothing comes back.
+/// Returns whether it is gone as the line says, and no message comes back.
 pub fn is_gone(outcome: Option<Outcome>, line: &mut PlayLine<'_>) -> bool {
     match outcome {
         Some(Outcome::Gone { cause, by, back }) => {
@@ -54,7 +54,7 @@ pub fn is_gone(outcome: Option<Outcome>, line: &mut PlayLine<'_>) -> bool {
     }
 }
 
-/// The same, and the message that the line says comes back.
+/// Returns whether it is gone as the line says, and the message of the line comes back.
 pub fn is_back(outcome: Option<Outcome>, line: &mut PlayLine<'_>) -> bool {
     match outcome {
         Some(Outcome::Gone { cause, by, back }) => match back {
@@ -67,13 +67,13 @@ pub fn is_back(outcome: Option<Outcome>, line: &mut PlayLine<'_>) -> bool {
     }
 }
 
-// The message is these bytes on a wire.
+// Returns whether the message is these bytes on a wire.
 fn is_wire(m: &Message, bytes: &[u8]) -> bool {
     let n = m.header().len();
     n <= bytes.len() && m.header() == &bytes[..n] && m.body() == &bytes[n..]
 }
 
-/// What was put on the wire is the rest of the line.
+/// Returns whether what was put on the wire is the rest of the line.
 pub fn is_put(wire: &PlayWire, line: &mut PlayLine<'_>) -> bool {
     for m in wire.outs() {
         if !is_wire(m, line.bytes().as_slice()) {
@@ -83,12 +83,12 @@ pub fn is_put(wire: &PlayWire, line: &mut PlayLine<'_>) -> bool {
     line.is_read()
 }
 
-/// The wire was asked for room as often as the line says, and what was put on it is the rest.
+/// Returns whether the wire was asked for room as often as the line says, and what was put on it is the rest.
 pub fn is_asked(wire: &PlayWire, line: &mut PlayLine<'_>) -> bool {
     line.number() == wire.asked() && is_put(wire, line)
 }
 
-/// The pipe that went down is the one that the line says, and went down so. Its wire.
+/// The wire of the pipe that went down, if pipe and cause are those of the line.
 pub fn down(gone: Option<Gone<PlayWire>>, line: &mut PlayLine<'_>) -> Option<PlayWire> {
     let gone = gone?;
     if line.number() == gone.pipe.0 && line.says(why_word(gone.why)) {
@@ -98,7 +98,7 @@ pub fn down(gone: Option<Gone<PlayWire>>, line: &mut PlayLine<'_>) -> Option<Pla
     }
 }
 
-/// What a core counts.
+/// The totals of the line.
 pub fn totals(line: &mut PlayLine<'_>) -> Totals {
     Totals {
         begun: line.long(),
@@ -118,7 +118,7 @@ pub fn topic_code(returned: Result<(), TopicError>) -> u32 {
     }
 }
 
-/// The same of a context that is shut.
+/// The number of the error of a shut context, 0 where it succeeded.
 pub fn shut_code(returned: Result<(), CtxError>) -> u32 {
     match returned {
         Ok(()) => 0,
@@ -126,7 +126,7 @@ pub fn shut_code(returned: Result<(), CtxError>) -> u32 {
     }
 }
 
-/// The same of a receive that begins.
+/// The number of the error of a receive that begins, 0 where it succeeded.
 pub fn recv_code(returned: Result<OpName, BeginError>) -> u32 {
     match returned {
         Ok(_) => 0,
@@ -134,7 +134,7 @@ pub fn recv_code(returned: Result<OpName, BeginError>) -> u32 {
     }
 }
 
-/// The same of a receive at once.
+/// The number of the error of a receive at once, 0 where it succeeded.
 pub fn now_code(returned: Result<Message, NowError>) -> u32 {
     match returned {
         Ok(_) => 0,

@@ -27,12 +27,12 @@ pub enum Fails {
 pub struct PlayWire {
     alloc: Global,
     script: Vec<WireStep>,
-    /// How many steps were passed.
+    /// The number of steps that are done.
     at: usize,
     fails: Fails,
-    /// How often it was pulled.
+    /// The number of pulls.
     pulls: u64,
-    /// How many messages it takes in all.
+    /// The number of messages that it takes in all.
     most: u64,
     /// How often it was asked for room.
     asked: u32,
@@ -40,7 +40,7 @@ pub struct PlayWire {
     marks: WireMarks,
 }
 
-// What the word is as a step; none where it is no word for one, or there is no memory for it.
+// The step of the word; `None` where it isn't one, or there is no memory for it.
 fn step_of(alloc: Global, word: &str) -> Option<WireStep> {
     match word {
         "pause" => Some(WireStep::NotYet),
@@ -56,7 +56,7 @@ fn step_of(alloc: Global, word: &str) -> Option<WireStep> {
     }
 }
 
-// The steps of a script, of which there is one at least.
+// The steps of a script, at least one.
 fn script_of(alloc: Global, gives: &str) -> Option<Vec<WireStep>> {
     let mut script = Vec::new(alloc);
     for word in gives.split(' ') {
@@ -113,7 +113,7 @@ impl PlayWire {
         }
     }
 
-    // What it returns where it is asked for room.
+    // What it returns when it is asked for room.
     fn has_room(&self) -> Room {
         if matches!(self.fails, Fails::AtRoom) {
             return Room::Failed;
@@ -171,8 +171,8 @@ impl Wire for PlayWire {
     }
 }
 
-/// A wire that takes so many messages, gives what these words say, and fails there; none where a word says nothing, or
-/// there is no memory for it.
+/// A wire that takes `most` messages, gives what these words say, and fails where `fails` says; `None` where a word has
+/// no meaning, or there is no memory for it.
 pub fn wire(alloc: Global, most: u64, gives: &str, fails: Fails) -> Option<PlayWire>
     ensures { IfSome result (λ w. IsUnused (wire_view Nameless None None 0 false w.marks)) }
 {

@@ -40,7 +40,7 @@ pub fn now_word(why: NowError) -> &'static str {
     }
 }
 
-// How an operation stands.
+// The state of an operation.
 fn phase_word(phase: Phase) -> &'static str {
     match phase {
         Phase::Idle => "idle",
@@ -67,12 +67,12 @@ pub fn miss_of(word: &str) -> Option<Miss> {
     }
 }
 
-// The operation had ended so: `ended`, how, and by which caller.
+// Returns whether the line says `ended`, this phase and this caller.
 fn is_ended(line: &mut PlayLine<'_>, phase: Phase, by: u32) -> bool {
     line.says("ended") && line.says(phase_word(phase)) && line.number() == by
 }
 
-/// The exchange came to what the line says.
+/// Returns whether the exchange has the result that the line says.
 pub fn is_raced(line: &mut PlayLine<'_>, raced: Option<Raced>) -> bool {
     match raced {
         None => false,
@@ -82,7 +82,7 @@ pub fn is_raced(line: &mut PlayLine<'_>, raced: Option<Raced>) -> bool {
     }
 }
 
-/// The look found what the line says.
+/// Returns whether the poll found what the line says.
 pub fn is_polled(line: &mut PlayLine<'_>, polled: Option<Polled>) -> bool {
     match polled {
         None => false,

@@ -1,4 +1,4 @@
--- The lanes of a wire keep their names, and a wire that drains goes on to.
+-- The lanes of a wire keep their names, and a wire that drains goes on draining.
 use Rattle.std.proofs.Common.{◌≡◌, ◌&&◌, ap, ◌∙◌, Bool, true, false, not, Option, Some, None, is_none, inl, inr}
 use Rattle.sp_msg.specs.Views.{MessageView, WireView}
 use Rattle.sp_msg.specs.Wires.{FlushedAs}

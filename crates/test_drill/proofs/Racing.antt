@@ -1,4 +1,4 @@
--- What the calls of one round need of those before.
+-- What the calls of one round need from those before.
 use Rattle.std.proofs.Common.{◌≡◌, ap, sym, ◌∙◌, List, false}
 use Rattle.sp_base.specs.declared.OpName.{OpName}
 use Rattle.sp_base.specs.declared.role.Role.TheVariants.{Pull as RolePull}
@@ -13,7 +13,7 @@ use Rattle.sp_socket.proofs.Held.{all_keep}
 use Rattle.cat_play.specs.Drilling.{drill_setting}
 use Rattle.cat_drill.specs.Calling.{IsDrillPass, Calls, Worked}
 
--- a call that collects nothing leaves open what was
+-- a call that collects nothing leaves open what was open
 pub still_calls : (s : SocketName) (p q : PassView) (ops : List OpName) → Worked p q → Calls s p ops → Calls s q ops
 still_calls s p q ops w c = record {
   own = (w.same.1 ∙ c.own.0, w.same.2 ∙ c.own.1, c.own.2, c.own.3);

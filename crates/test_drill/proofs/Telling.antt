@@ -1,4 +1,4 @@
--- What an end can't return after it was told.
+-- What the end of a lane can't return after the other end's calls.
 use Rattle.std.proofs.Common.{◌≡◌, ◌+◌, ◌<◌, ℕ, List, [], ◌∷◌, ◌++◌, length, ap, ◌∙◌, subst, arith, length-append}
 use Rattle.sp_lane.specs.declared.item.LaneItem.{LaneItem}
 use Rattle.sp_base.specs.Outside.{IsPrefix}

@@ -1,10 +1,10 @@
-//! What a test asks: it stops where a result is another one.
+//! The checks of tests, which abort where a result is wrong.
 ghost use Rattle.std.specs.Prelude.{◌≡◌, Ok, true};
 
 use std::fmt::Debug;
 use std::process::Abort;
 
-/// What was made.
+/// The value of `returned`. Aborts where it is an error.
 pub fn made<T, E: Debug + Drop>(rt: &impl Abort, returned: Result<T, E>) -> T
     ensures { returned ≡ Ok result }
 {
@@ -14,21 +14,21 @@ pub fn made<T, E: Debug + Drop>(rt: &impl Abort, returned: Result<T, E>) -> T
     }
 }
 
-/// It holds.
+/// Aborts where `it` is false.
 pub fn holds(rt: &impl Abort, it: bool)
     ensures { it ≡ true }
 {
     assert!(rt; it);
 }
 
-/// No line is wrong.
+/// Aborts where a line is wrong, and tells its number.
 pub fn is_right(rt: &impl Abort, wrong: Option<usize>) {
     if let Some(line) = wrong {
         panic!(rt; "line {line}");
     }
 }
 
-/// It is so, as the text says.
+/// Aborts with the text where `it` is false.
 pub fn is_so(rt: &impl Abort, it: bool, text: &str) {
     assert!(rt; it, "{text}");
 }

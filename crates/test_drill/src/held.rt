@@ -1,6 +1,6 @@
-//! A round in which one task comes through its gate while another one serves: a round whose tasks come through their
-//! gates together, and then work one after the other, is no such round. And one in which two tasks stay at their gates
-//! until the others have served.
+//! A round in which one task comes through its gate while another one serves, unlike a round whose tasks come through
+//! their gates together and then work one after another. And a round in which two tasks stay at their gates until the
+//! others have served.
 
 use crate::checks::{is_right, is_so, made};
 use crate::marks::{held, marks_of};
@@ -10,8 +10,8 @@ use std::process::Abort;
 use std::sync::Wait;
 use std::thread::Threads;
 
-// A socket over the wire of a drill does so, while its tasks and the wire make these steps; the marks come to these
-// counts.
+// Plays the calls on a socket over the wire of a drill, while its tasks and the wire make these steps, and checks that
+// the marks reach these counts.
 fn plays<R: AllocGlobal + Abort + Wait + Threads + Sync>(
     rt: &R,
     names: &str,
@@ -45,7 +45,7 @@ fn a_task_passes_its_gate_while_another_serves(rt: HostRuntime) {
     plays(&rt, names, steps, "at_once 1 0 0", "96 0 0", "1 1 1 1..2");
 }
 
-// Who cancels or lets the moment come before its gate leaves nothing to receive.
+// A task that cancels or ticks before its gate leaves nothing to receive.
 #[test]
 fn tasks_stay_at_their_gates_while_others_serve(rt: HostRuntime) {
     let steps = "

@@ -1,12 +1,12 @@
-//! Worked runs of lanes, and of the wire over two of them. What is done at the ends of a lane stands in a text:
+//! Examples of lanes, and of the wire over two of them. A text says what is done at the ends of a lane:
 //!
 //! | line | what it says |
 //! |---|---|
 //! | `put a` | a message of this word is put |
 //! | `full b` | the lane is full, and the message comes back |
-//! | `take a` | the oldest message is of this word |
+//! | `take a` | the oldest message has this word |
 //! | `empty` | there is none |
-//! | `fill 8192` | messages are put until the lane is full: so many were put |
+//! | `fill 8192` | messages are put until the lane is full, 8192 in all |
 ghost use Rattle.std.specs.Prelude.{◌≡◌, ◌<◌, ◌≤◌, ◌+◌, false, true, length, IsTrue};
 ghost use Rattle.sp_msg.specs.Wires.{AfterRoom};
 ghost use Rattle.sp_lane.specs.Lanes.{has_end};
@@ -19,10 +19,11 @@ use std::alloc::Global;
 use std::process::Abort;
 use std::sync::Wait;
 
-/// How many messages are put at the most.
+/// The greatest number of messages that are put.
 const MOST: u32 = 10_000;
 
-// Puts a message of this word. Whether that was done, or, where the lane is to be full, the same message came back.
+// Puts a message of this word. Returns whether that was done, or, where the lane is to be full, whether the same
+// message came back.
 fn is_put<R: Wait>(rt: &R, alloc: Global, input: &mut LaneIn, word: &str, full: bool) -> bool
     ensures { input.new.name ≡ input.old.name }
 {
@@ -38,7 +39,7 @@ fn is_put<R: Wait>(rt: &R, alloc: Global, input: &mut LaneIn, word: &str, full: 
     }
 }
 
-// Whether a take gives this word; none where the lane is to be empty.
+// Returns whether a take gives this word; `None` where the lane is to be empty.
 fn is_taken<R: Wait>(rt: &R, output: &mut LaneOut, word: Option<&str>) -> bool
     ensures { output.new.name ≡ output.old.name }
 {
@@ -52,7 +53,7 @@ fn is_taken<R: Wait>(rt: &R, output: &mut LaneOut, word: Option<&str>) -> bool
     }
 }
 
-// Puts messages until the lane is full. Whether so many were put.
+// Puts messages until the lane is full. Returns whether `count` were put.
 fn is_filled<R: Wait>(rt: &R, alloc: Global, input: &mut LaneIn, count: &str) -> bool
     ensures { input.new.name ≡ input.old.name }
 {
@@ -64,7 +65,7 @@ fn is_filled<R: Wait>(rt: &R, alloc: Global, input: &mut LaneIn, count: &str) ->
     false
 }
 
-// Whether the line is so.
+// Returns whether the line is right.
 fn is_so<R: Wait>(
     rt: &R,
     alloc: Global,
@@ -90,7 +91,7 @@ fn is_so<R: Wait>(
     }
 }
 
-// The number of the first line that is not so, from 1 on.
+// The number of the first line that isn't right, from 1 on.
 fn wrong_line<R: Wait>(
     rt: &R,
     alloc: Global,
@@ -112,7 +113,7 @@ fn wrong_line<R: Wait>(
     None
 }
 
-// Each line is so at the ends of a lane for so many items, and so many are left in it.
+// Checks that each line is right at the ends of a lane for `cap` items, and that `left` are left in it.
 fn plays<R: AllocGlobal + Wait + Abort>(rt: &R, cap: u32, lines: &str, left: u64)
     requires some { 1 ≤ cap }
     requires most { cap ≤ 8192 }
@@ -142,7 +143,7 @@ fn the_longest_lane_holds_8192(rt: HostRuntime) {
     plays(&rt, 8_192, "fill 8192", 8_192);
 }
 
-// Puts a message where there is room, by what both ends have done. It isn't refused.
+// Puts a message where what both ends did leaves room. It isn't refused.
 fn puts_where_there_is_room<R: Wait>(
     rt: &R,
     input: &mut LaneIn,
@@ -163,7 +164,7 @@ fn puts_where_there_is_room<R: Wait>(
     }
 }
 
-// Takes an item where one is left, by what both ends have done. It gets one.
+// Takes an item where what both ends did leaves one. It gets one.
 fn takes_what_is_left<R: Wait>(rt: &R, input: &mut LaneIn, output: &mut LaneOut) -> bool
     requires name { output.old.name ≡ input.old.name }
     requires left { length output.old.taken < length input.old.put }
@@ -200,7 +201,7 @@ fn room_once<R: Wait>(rt: &R, wire: &mut LaneWire) -> Room
     wire.room(rt)
 }
 
-// Puts a message on a wire that has room.
+// Puts a message on the wire, and returns whether it had room.
 fn sends<R: Wait>(rt: &R, wire: &mut LaneWire, m: Message) -> bool
     ensures inp { wire.new.inp ≡ wire.old.inp }
     ensures out { wire.new.out.name ≡ wire.old.out.name }
@@ -217,12 +218,12 @@ fn sends<R: Wait>(rt: &R, wire: &mut LaneWire, m: Message) -> bool
     }
 }
 
-// Whether all that was put is written.
+// Returns whether all that was put is written.
 fn is_flushed<R: Wait>(rt: &R, wire: &mut LaneWire) -> bool {
     wire.is_open() && matches!(wire.flush(rt), WireFlush::Empty)
 }
 
-// Whether the next message of a wire is this one, all of which is body.
+// Returns whether the next message of a wire is this one, which has no header.
 fn pulls<R: Wait>(rt: &R, wire: &mut LaneWire, body: &[u8]) -> bool {
     if !wire.is_open() {
         return false;
@@ -233,7 +234,7 @@ fn pulls<R: Wait>(rt: &R, wire: &mut LaneWire, body: &[u8]) -> bool {
     }
 }
 
-// Whether the message goes from one wire to the other, where it is this body.
+// Returns whether the message goes from one wire to the other, where it has this body.
 fn carries<R: Wait>(
     rt: &R,
     from: &mut LaneWire,
@@ -249,7 +250,7 @@ fn message<R: AllocGlobal + Abort>(rt: &R, text: &[u8]) -> Message {
     made(rt, Message::from_body(rt.alloc(), text))
 }
 
-// 64 bytes, and 1 MiB behind them.
+// 64 bytes, and then 1 MiB.
 fn long_bytes<R: AllocGlobal + Abort>(rt: &R) -> Vec<u8> {
     let mut bytes = made(rt, vec![in rt.alloc(); b'h'; 64]);
     made(rt, bytes.resize(1_048_640, b'x'));
@@ -265,7 +266,7 @@ fn long_message<R: AllocGlobal + Abort>(rt: &R, bytes: &[u8]) -> Message {
     m
 }
 
-// Whether it comes through a lane.
+// Returns whether a long message comes through a lane.
 fn comes_through<R: AllocGlobal + Wait + Abort>(
     rt: &R,
     near: &mut LaneWire,
@@ -286,13 +287,13 @@ fn a_long_message_comes_through_a_lane_wire(rt: HostRuntime) {
     drop(far);
 }
 
-// Whether a text goes each way between two wires.
+// Returns whether a text goes each way between two wires.
 fn carry<R: AllocGlobal + Wait + Abort>(rt: &R, one: &mut LaneWire, other: &mut LaneWire) -> bool {
     carries(rt, one, other, message(rt, b"there"), b"there")
         && carries(rt, other, one, message(rt, b"back"), b"back")
 }
 
-// Whoever dials a name within the process and who accepts there send to each other.
+// The half that dials a name within the process and the half that accepts send to each other.
 #[test]
 fn a_name_carries_both_ways(rt: HostRuntime) {
     let mut names = Inproc::new(rt.alloc());
@@ -315,7 +316,7 @@ fn flush_once<R: Wait>(rt: &R, wire: &mut LaneWire)
     let _ = wire.flush(rt);
 }
 
-// Shuts a wire, and then flushes it and takes at the other end, at most 8 times. Whether the end came.
+// Shuts a wire, and then flushes it and takes at the other end, at most 8 times. Returns whether the end came.
 fn end_comes<R: Wait>(rt: &R, wire: &mut LaneWire, other: &mut LaneOut) -> bool
     ensures wire { wire.new.inp ≡ wire.old.inp }
     ensures out { wire.new.out.name ≡ wire.old.out.name }
@@ -331,7 +332,7 @@ fn end_comes<R: Wait>(rt: &R, wire: &mut LaneWire, other: &mut LaneOut) -> bool
     false
 }
 
-// Whether there is no room.
+// Returns whether there is no room.
 fn is_full<R: Wait>(rt: &R, wire: &mut LaneWire) -> bool
     ensures inp { wire.new.inp ≡ wire.old.inp }
     ensures out { wire.new.out.name ≡ wire.old.out.name }
@@ -342,7 +343,7 @@ fn is_full<R: Wait>(rt: &R, wire: &mut LaneWire) -> bool
     matches!(room_once(rt, wire), Room::Full)
 }
 
-// The lane is full as the wire is shut, with a message in hand.
+// The lane is full when the wire is shut, with a message in hand.
 #[test]
 fn a_lane_wire_is_shut_and_taken_apart(rt: HostRuntime) {
     let (out, mut other_out) = made(&rt, lane(rt.alloc(), 1));

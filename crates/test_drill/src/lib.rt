@@ -1,4 +1,4 @@
-//! Worked drills and lanes. What tasks, wires and sockets do stands in texts (`marks`, `plays`).
+//! Examples of drills and lanes. What tasks, wires and sockets do is written as texts (`marks`, `plays`).
 #![tactic(auto)]
 
 #[cfg(test)]

@@ -1,16 +1,16 @@
-//! What tasks at their gates and a wire tell each other, as a text.
+//! The signals between tasks at their gates and a wire, as a text.
 //!
-//! Marks are counts with names, from 0 on. Each line of the text is a step of a task, which stands by its number, or of
-//! the wire. A task makes its steps at its gate, the wire makes its own each time that it is pulled.
+//! Marks are counts with names, from 0 on. Each line of the text is a step of a task, which is written as its number,
+//! or of the wire. A task makes its steps at its gate, the wire makes its own each time that it is pulled.
 //!
 //! | step | what is done |
 //! |---|---|
-//! | `1 add met 1` | so many are added to the mark |
-//! | `3 reach pulled 1` | it looks at the mark until this is so many or more |
-//! | `1 meet last 1` | it looks at the mark until this is exactly so many |
-//! | `wire below pulled 1` | the mark is less |
+//! | `1 add met 1` | 1 is added to the mark |
+//! | `3 reach pulled 1` | it polls the mark until it is 1 or more |
+//! | `1 meet last 1` | it polls the mark until it is exactly 1 |
+//! | `wire below pulled 1` | the mark is less than 1 |
 //!
-//! A step that doesn't come to that, or not within so many looks, is the last one that is made then.
+//! A step that fails, or needs more than `LOOKS` polls, is the last one that is made.
 ghost use Rattle.std.specs.Prelude.{◌≡◌};
 
 use crate::words::range_of;
@@ -22,7 +22,7 @@ use std::sync::Wait;
 use std::sync::atomic::{AtomicU64, Ordering};
 use std::thread;
 
-/// How often one who waits for a mark looks at the most.
+/// The greatest number of polls of a mark.
 const LOOKS: u32 = 1_000_000;
 
 /// The number of the wire. Those of tasks begin with 1.
@@ -44,7 +44,7 @@ struct Step {
     count: u64,
 }
 
-/// Marks, and the steps of those who come by.
+/// Marks, and the steps of the tasks and the wire.
 #[derive(Drop)]
 pub struct NamedMarks {
     counts: Vec<AtomicU64>,
@@ -72,7 +72,7 @@ fn act_of(word: &str) -> Option<MarkAct> {
     }
 }
 
-// The place of the name among these.
+// The place of the name among `names`.
 fn place_of(names: &str, name: &str) -> Option<usize> {
     for (at, one) in names.split(' ').enumerate() {
         if one == name {
@@ -105,7 +105,7 @@ fn steps_of(alloc: Global, names: &str, text: &str) -> Option<Vec<Step>> {
     Some(steps)
 }
 
-// As many marks as there are names, none of which is set.
+// As many marks as names, none of which is set.
 fn unmarked(alloc: Global, names: &str) -> Option<Vec<AtomicU64>> {
     let mut counts = Vec::new(alloc);
     for _ in names.split(' ') {
@@ -125,7 +125,8 @@ pub fn marks_of<R: AllocGlobal + Abort>(rt: &R, names: &str, text: &str) -> Name
     }
 }
 
-// Looks for the mark to be so many, or more where it needn't be exact, yielding between two looks. Whether it was.
+// Polls the mark until it is `count`, or more where it needn't be exact, yielding between two polls. Returns whether it
+// was.
 fn comes_to(mark: &AtomicU64, count: u64, exact: bool) -> bool {
     for _ in 0..LOOKS {
         let now = mark.load(Ordering::SeqCst);
@@ -138,7 +139,7 @@ fn comes_to(mark: &AtomicU64, count: u64, exact: bool) -> bool {
 }
 
 impl NamedMarks {
-    // Whether the step comes to what it is to.
+    // Makes the step, and returns whether it succeeded.
     fn is_made(&self, step: Step) -> bool {
         let Some(mark) = self.counts.get(step.mark) else {
             return false;
@@ -154,7 +155,7 @@ impl NamedMarks {
         }
     }
 
-    // Makes the steps of the one with this number.
+    // Makes the steps of the task with this number, or of the wire.
     fn come_by(&self, who: u32) {
         for step in self.steps.iter() {
             if step.who == who && !self.is_made(*step) {
@@ -163,7 +164,7 @@ impl NamedMarks {
         }
     }
 
-    /// Each mark, in turn, is as many as one of these words says, and there are no others.
+    /// Returns whether the marks are as the words say, one word for each.
     pub fn are(&self, words: &str) -> bool {
         let mut words = words.split(' ');
         for mark in self.counts.iter() {
@@ -196,7 +197,7 @@ pub struct MarkedWire<'a, W: Wire + Drop> {
     marks: &'a NamedMarks,
 }
 
-/// The wire, held by the marks.
+/// The wire, with its steps among these marks.
 pub fn held<'a, W: Wire + Drop>(wire: W, marks: &'a NamedMarks) -> MarkedWire<'a, W>
     ensures { result.wire ≡ wire }
 {

@@ -1,20 +1,20 @@
-//! Plays of a drill's socket as texts. Each line is a call, with what it comes to:
+//! Plays of a drill's socket as texts. Each line is a call with its result:
 //!
 //! | call | words |
 //! |---|---|
-//! | messages are put in the lane, up to so many in all: so many are put | `puts 64 64` |
-//! | a round's receives are begun with this deadline, and its tasks go one after the other | `in_turn 1 2 2` |
-//! | the same, and its tasks go at once | `at_once 1 0..96 0..64` |
-//! | the same without tasks: at the moment that came last nothing is due | `waits 2 0 0` |
+//! | messages are put in the lane, up to 64 in all: 64 are put | `puts 64 64` |
+//! | a round's receives begin with this deadline, and its tasks run in turn | `in_turn 1 2 2` |
+//! | the same, and its tasks run at once | `at_once 1 0..96 0..64` |
+//! | the same without tasks: at the last moment nothing is due | `waits 2 0 0` |
 //! | the same, and something is | `due 1 0 0` |
-//! | all rounds of so many messages, which all are given | `rounds 130` |
+//! | all rounds of 130 messages, which all are given | `rounds 130` |
 //!
-//! Behind the deadline stands how many of a round's first receives end with messages, and how many receives in all get
-//! one. The other even ones are cancelled by the third task, the other odd ones expire by the fourth. Without tasks all
-//! are cancelled where they are collected, but for the odd ones that are due. `1..64` is one to 64.
+//! After the deadline comes how many of a round's first receives end with messages, and how many receives in all get
+//! one. The third task cancels the other even ones, and the fourth lets the other odd ones time out. Without tasks all
+//! are cancelled where they are collected, except for the odd ones that are due. `1..64` is one to 64.
 //!
-//! At the end stand three numbers, as in `96 1..64 0..1`: how many receives were begun in all, how many messages came
-//! of the wire, and how many of these were given to nobody.
+//! At the end come three numbers, as in `96 1..64 0..1`: how many receives began in all, how many messages came from
+//! the wire, and how many of these no receive got.
 ghost use Rattle.std.specs.Prelude.{◌≡◌, ◌≤◌, []};
 ghost use Rattle.core_state.specs.Wires.{IsUnused};
 ghost use Rattle.sp_socket.specs.Passes.{new_list};
@@ -39,7 +39,7 @@ use std::alloc::Global;
 use std::sync::Wait;
 use std::thread::Threads;
 
-/// How the tasks of a round go.
+/// How the tasks of a round run.
 #[derive(Clone, Copy, PartialEq, Eq)]
 enum Tasks {
     InTurn,
@@ -55,9 +55,9 @@ enum Tasks {
 struct Half {
     tasks: Tasks,
     deadline: Tick,
-    /// How many of the first receives get messages.
+    /// The number of first receives that get messages.
     won: Range,
-    /// How many receives do.
+    /// The number of receives that do.
     given: Range,
 }
 
@@ -82,7 +82,7 @@ fn half_of(tasks: &str, words: &str) -> Option<Half> {
     })
 }
 
-// How the receive at this place of a round ends, where so many of the first ones get messages.
+// How the receive at this place of a round ends, where the first `messages` receives get messages.
 fn expected(tasks: Tasks, place: u64, messages: u64) -> Polled {
     if place < messages {
         return ended(Phase::Won, 0);
@@ -99,7 +99,7 @@ fn ended(phase: Phase, by: u32) -> Polled {
     Polled::Ended { phase, by }
 }
 
-// Whether it ended in one of these ways.
+// Returns whether it ended in one of these ways.
 fn ended_so<P: Proto, W: Wire>(
     socket: &Socket<P, W>,
     pass: &mut Pass<P, W>,
@@ -114,7 +114,7 @@ fn ended_so<P: Proto, W: Wire>(
     ended == so || ended == or
 }
 
-// Whether each of these stands as it is to behind this half of a round.
+// Returns whether each of these ended as it is to in this half of a round.
 fn all_ended<P: Proto, W: Wire>(
     socket: &Socket<P, W>,
     pass: &mut Pass<P, W>,
@@ -135,8 +135,8 @@ fn all_ended<P: Proto, W: Wire>(
     true
 }
 
-// Begins a round's receives, and does what each task does, one after the other. Whether all were begun, half of them
-// for the third task.
+// Begins a round's receives, and does what each task does, one after another. Returns whether all were begun, half of
+// them for the third task.
 fn in_turn<P: Proto, W: Wire, G: Gate, R: Wait>(
     rt: &R,
     alloc: Global,
@@ -160,7 +160,8 @@ fn in_turn<P: Proto, W: Wire, G: Gate, R: Wait>(
     (it, begun && names.len() == 48)
 }
 
-// Begins a round's receives. Whether all were begun, and something is due at the moment that came last, or nothing.
+// Begins a round's receives. Returns whether all were begun, and something is due at the last moment just where `due`
+// says so.
 fn untouched<P: Proto, W: Wire, R: Wait>(
     rt: &R,
     alloc: Global,
@@ -181,7 +182,7 @@ fn untouched<P: Proto, W: Wire, R: Wait>(
     (it, begun && is_due == due)
 }
 
-// The receives of a round, and what its tasks do to them. Whether all were begun.
+// Begins the receives of a round, and does what its tasks do to them. Returns whether all were begun.
 fn begun_so<P: Proto + Send, W: Wire + Send, G: Gate + Sync, R: Wait + Threads + Sync>(
     rt: &R,
     alloc: Global,
@@ -203,7 +204,7 @@ fn begun_so<P: Proto + Send, W: Wire + Send, G: Gate + Sync, R: Wait + Threads +
     }
 }
 
-// Plays it. How many messages its receives got; none where something is not so.
+// Plays the half. Returns how many messages its receives got; `None` where a result is wrong.
 fn half_round<P: Proto + Send, W: Wire + Send, G: Gate + Sync, R: Wait + Threads + Sync>(
     rt: &R,
     alloc: Global,
@@ -225,7 +226,7 @@ fn half_round<P: Proto + Send, W: Wire + Send, G: Gate + Sync, R: Wait + Threads
     (it, if right { Some(given) } else { None })
 }
 
-// Puts messages in the lane. No receive gets one.
+// Puts messages in the lane. No receive gets one, so it returns 0.
 fn puts<R: Wait>(rt: &R, alloc: Global, source: &mut DrillSource, words: &str) -> Option<u64>
     requires { IsSource source.old }
     ensures { IsSource source.new }
@@ -240,7 +241,7 @@ fn puts<R: Wait>(rt: &R, alloc: Global, source: &mut DrillSource, words: &str) -
     }
 }
 
-// Makes the call. How many messages receives got; none where something is not so.
+// Makes the call. Returns how many messages receives got; `None` where a result is wrong.
 fn call<P: Proto + Send, W: Wire + Send, G: Gate + Sync, R: Wait + Threads + Sync>(
     rt: &R,
     alloc: Global,
@@ -276,16 +277,16 @@ fn call<P: Proto + Send, W: Wire + Send, G: Gate + Sync, R: Wait + Threads + Syn
     }
 }
 
-/// What a play came to.
+/// The result of a play.
 #[derive(Clone, Copy)]
 struct Played {
-    /// How many messages receives got.
+    /// The number of messages that receives got.
     given: u64,
-    /// The number of the first line that is not so, from 1 on.
+    /// The number of the first line that isn't right, from 1 on.
     wrong: Option<usize>,
 }
 
-// Makes the calls, up to the first line that is not so.
+// Makes the calls, up to the first line that isn't right.
 fn calls_on<P: Proto + Send, W: Wire + Send, G: Gate + Sync, R: Wait + Threads + Sync>(
     rt: &R,
     alloc: Global,
@@ -323,7 +324,7 @@ fn calls_on<P: Proto + Send, W: Wire + Send, G: Gate + Sync, R: Wait + Threads +
     (it, Played { given, wrong: None })
 }
 
-// Whether these are the totals of the words, where receives got so many messages, and the others got none.
+// Returns whether these are the totals of the words, where receives got `given` messages, and the others got none.
 fn are_so(totals: Totals, given: u64, words: &str) -> bool {
     let Some((begun, rest)) = words.split_once(' ') else {
         return false;
@@ -341,7 +342,7 @@ fn are_so(totals: Totals, given: u64, words: &str) -> bool {
     counted && held && ended && totals.won == given
 }
 
-// Plays the calls on a socket that was opened, over a pipe of this wire.
+// Plays the calls on an open socket, over a pipe of this wire.
 fn plays_on<P: Proto + Send, W: Wire + Send + Drop, G: Gate + Sync, R: Wait + Threads + Sync>(
     rt: &R,
     alloc: Global,
@@ -373,8 +374,8 @@ fn plays_on<P: Proto + Send, W: Wire + Send + Drop, G: Gate + Sync, R: Wait + Th
     played.wrong
 }
 
-/// Plays the calls on the socket of a drill, over a pipe of this wire, which is fed from the source. The number of the
-/// first line that is not so, from 1 on; 0 where the totals at its end are others, or there is no memory.
+/// Plays the calls on the socket of a drill, over a pipe of this wire, which is fed from the source. Returns the number
+/// (from 1 on) of the first line that isn't right; 0 where the totals at its end are wrong, or there is no memory.
 pub fn wrong_line<R: AllocGlobal + Wait + Threads + Sync, W: Wire + Send + Drop, G: Gate + Sync>(
     rt: &R,
     source: DrillSource,

@@ -1,4 +1,4 @@
-//! The first half of a drill's round: what each of its tasks does to the receives, one task after the other and all at
+//! The first half of a drill's round: what each of its tasks does to the receives, one task after another and all at
 //! once.
 
 use crate::checks::{is_right, made};
@@ -9,7 +9,7 @@ use std::process::Abort;
 use std::sync::Wait;
 use std::thread::Threads;
 
-// A socket over the wire of a drill does so.
+// Plays the calls on a socket over the wire of a drill.
 fn plays<R: AllocGlobal + Abort + Wait + Threads + Sync>(rt: &R, calls: &str, totals: &str) {
     let (source, drill_wire) = made(rt, lanes(rt.alloc()));
     is_right(
@@ -18,7 +18,7 @@ fn plays<R: AllocGlobal + Abort + Wait + Threads + Sync>(rt: &R, calls: &str, to
     );
 }
 
-// Each of those that serve gives one.
+// Each task that serves gives one message.
 #[test]
 fn each_task_does_its_part(rt: HostRuntime) {
     let calls = "
@@ -33,7 +33,7 @@ fn each_task_does_its_part_at_once(rt: HostRuntime) {
     plays(&rt, "at_once 1 0 0", "96 0 0");
 }
 
-// Whatever the schedule, each receive is ended.
+// Whatever the schedule, each receive ends.
 #[test]
 fn each_task_does_its_part_while_messages_come(rt: HostRuntime) {
     let calls = "
@@ -44,9 +44,9 @@ fn each_task_does_its_part_while_messages_come(rt: HostRuntime) {
 }
 
 // 64 messages go in one round, 130 in three. The tick of the last round is its number, since a tick before the last one
-// counts as that: what is due then is due, and what is due later waits. Of each round 96 receives were begun, and one
-// more for each message that those did not get. Each of the two that serve pulls one message at the most, so they got
-// two at the most.
+// counts as that: what is due by then is due, and what is due later waits. In each round 96 receives began, and one
+// more for each message that those did not get. Each of the two tasks that serve pulls at most one message, so the
+// receives got at most two.
 #[test]
 fn each_round_begins_and_ends_its_receives(rt: HostRuntime) {
     let calls = "

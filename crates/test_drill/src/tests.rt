@@ -10,8 +10,8 @@ use std::process::Abort;
 use std::sync::Wait;
 use std::thread::Threads;
 
-// Whether a drill of so many messages prints this. Where the first put of its sink fails, it is a fault of the output,
-// and not more than this is printed.
+// Returns whether a drill of `count` messages prints this. Where the first put of its sink fails, it is a fault of the
+// output, and no more than this is printed.
 fn prints<R: AllocGlobal + Abort + Wait + Threads + Sync, G: Gate + Sync>(
     rt: &R,
     gate: &G,
@@ -36,14 +36,14 @@ fn prints<R: AllocGlobal + Abort + Wait + Threads + Sync, G: Gate + Sync>(
     printed && end.record_.is_some()
 }
 
-// A drill whose gates are open prints this.
+// Checks that a drill of `count` messages whose gates are open prints this.
 fn is_drilled<R: AllocGlobal + Abort + Wait + Threads + Sync>(rt: &R, count: u32, text: &str)
     requires { (1 ≤ count) × (count ≤ 1000000) }
 {
     is_so(rt, prints(rt, &OpenGate, count, false, text), text);
 }
 
-// So does one whose tasks make these steps, and the marks come to these counts.
+// Checks the same of a drill whose tasks make these steps, and that the marks reach these counts.
 fn is_gated<R: AllocGlobal + Abort + Wait + Threads + Sync>(
     rt: &R,
     names: &str,

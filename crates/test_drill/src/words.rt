@@ -1,6 +1,6 @@
-//! Words of a text: numbers, and how many something may be.
+//! Words of a text: numbers, and ranges of counts.
 
-/// How many something may be.
+/// A range of counts.
 #[derive(Clone, Copy)]
 pub struct Range {
     pub least: u64,
@@ -8,13 +8,13 @@ pub struct Range {
 }
 
 impl Range {
-    /// So many lie in it.
+    /// Returns whether `n` lies in the range.
     pub fn has(self, n: u64) -> bool {
         self.least <= n && n <= self.most
     }
 }
 
-/// `2` for two, `1..64` for one to 64, both among them.
+/// The range of a word: `2` for two, `1..64` for one to 64, both included.
 pub fn range_of(word: &str) -> Option<Range> {
     let (least, most) = match word.split_once("..") {
         Some(ends) => ends,

@@ -1,4 +1,4 @@
-//! Bodies of 1 MiB, out and in, of each role; and of 3 MiB, which go through a rep and through a req as 1 byte does.
+//! Bodies of 1 MiB, out and in, of each role; and of 3 MiB, which go through a rep and a req like one byte.
 use crate::checks::plays;
 
 #[test]

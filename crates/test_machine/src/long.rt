@@ -1,9 +1,9 @@
-//! Long lives: what a req and a rep do for their first request, they do for each later one, on each pipe and context
-//! and at each tick. And a setting at the end of its range.
+//! Long lives: a req and a rep treat each later request like their first, on each pipe and context and at each tick.
+//! And a setting at the end of its range.
 use crate::checks::plays;
 
-// 120,000 requests go over one pipe, one a second. Then 10,000 pipes come up and go down, one after the other, each for
-// a request, and contexts are opened and shut so. On context 0 a rep sends what it received.
+// 120,000 requests go over one pipe, one a second. Then 10,000 pipes come up and go down, one after another, each for a
+// request, and contexts are likewise opened and shut. On context 0 a rep sends what it received.
 #[test]
 fn a_rep_answers_many_requests(rt: HostRuntime) {
     let cooked = "
@@ -29,7 +29,7 @@ fn a_rep_answers_many_requests(rt: HostRuntime) {
     plays(&rt, rt.alloc(), "rep raw", raw);
 }
 
-// The same of a req. A raw one sends what it receives.
+// The same with a req. A raw one sends what it receives.
 #[test]
 fn a_req_asks_many_times(rt: HostRuntime) {
     let cooked = "
@@ -55,8 +55,8 @@ fn a_req_asks_many_times(rt: HostRuntime) {
     plays(&rt, rt.alloc(), "req raw", raw);
 }
 
-// Each of 10,000 contexts asks on the pipe with its number: in its time again there, and not a millisecond before it,
-// and then on the next pipe, where it is answered.
+// Each of 10,000 contexts asks on the pipe with its number: again there at its time, and not a millisecond before it,
+// and then on the next pipe, where it gets its reply.
 #[test]
 fn each_of_many_requests_goes_out_again_in_its_time(rt: HostRuntime) {
     let usual = "
@@ -79,7 +79,7 @@ fn each_of_many_requests_goes_out_again_in_its_time(rt: HostRuntime) {
 
 #[test]
 fn fifteen_words_are_not_too_far_where_the_limit_is_fifteen(rt: HostRuntime) {
-    // Fifteen hops, a request's id, and `q`; then a hop less.
+    // Fifteen hops, a request's id, and `q`; then one hop less.
     let play = "
         reserve 2
         up 1

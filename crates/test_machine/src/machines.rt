@@ -1,16 +1,17 @@
-//! Machines by texts, each of which plays a text. Its role stands first, as `bus`; several have plus signs between
-//! them, as `rep+respondent`. Behind it stand words for what is not usual:
+//! Machines made from texts, each of which plays a text. Its role comes first, as `bus`; several roles have plus signs
+//! between them, as `rep+respondent`. Words for unusual settings follow:
 //!
 //! | what | word |
 //! |---|---|
 //! | it is raw | `raw` |
-//! | a full queue keeps what is old | `prefer_old` |
-//! | where the ids of requests begin | `dice=5` |
-//! | how many messages are kept | `queue=2` |
-//! | after how many milliseconds a request goes out again | `resend=1` |
-//! | how many words of a backtrace are read | `ttl=15` |
+//! | a full queue keeps its old messages | `prefer_old` |
+//! | the first id of requests | `dice=5` |
+//! | the room of the queue | `queue=2` |
+//! | the milliseconds until a request goes out again | `resend=1` |
+//! | the greatest length of a backtrace in words | `ttl=15` |
 //!
-//! But for a push of `pipeline` each machine is written out here alone: a function that hands one to a generic function takes seconds to prove.
+//! Except for a push of `pipeline`, each machine is written out only here: a function that passes one to a generic
+//! function takes seconds to prove.
 ghost use Rattle.std.specs.Prelude.{IfSome};
 ghost use Rattle.sp_history.specs.Options.{Fits};
 
@@ -26,8 +27,8 @@ use sp_history::setting::Options;
 use sp_proto::Proto;
 use std::alloc::Global;
 
-/// The number of the first line at which a machine of this text returns something else, from 1 on; 0 where the text is
-/// none of a machine, or there is no memory for it.
+/// The number (from 1 on) of the first line at which a machine of this text returns something else; 0 where the text is
+/// not one of a machine, or there is no memory for it.
 pub fn line_wrong_for(alloc: Global, machines: &str, play: &str) -> Option<usize> {
     let (roles, words) = match machines.split_once(' ') {
         Some(parts) => parts,
@@ -58,7 +59,7 @@ fn of_role(alloc: Global, role: &str, words: &str, play: &str) -> Option<usize> 
     }
 }
 
-// What a machine is set to.
+// The setting of a machine.
 #[derive(Clone, Copy)]
 struct MachineSetting {
     options: Options,
@@ -175,12 +176,12 @@ fn push(alloc: Global, words: &str, play: &str) -> Option<usize> {
     }
 }
 
-/// The same of this push.
+/// The number (from 1 on) of the first line at which this push returns something else.
 pub fn push_plays(alloc: Global, push: Result<Push, NoMemory>, play: &str) -> Option<usize> {
     plays(alloc, push, play)
 }
 
-// The numbers are in range, as the machines below ask for.
+// The setting of the words, with its numbers in range, as the machines below require.
 fn kind_that_fits(role: Role, words: &str) -> Option<MachineSetting>
     ensures { IfSome result (λ it. Fits it.options) }
 {

@@ -1,4 +1,4 @@
-//! Forty pipes or contexts at once: what is kept, and what goes out again, comes in its order.
+//! Forty pipes or contexts at once: queued messages, and requests that go out again, come in their order.
 use crate::checks::plays;
 
 // On each pipe comes a request.

@@ -1,8 +1,8 @@
-//! Calls that mean nothing to a machine: that a request goes out again where it has none, a copy for all, a topic. They
-//! return nothing, and what it keeps and sends stays as it was.
+//! Calls that mean nothing to a machine: resending a request where it has none, a copy for all, a topic. They return
+//! nothing, and its queues and sends stay as they were.
 use crate::checks::plays;
 
-// A frame came before these calls, and a receive gets it behind them.
+// A frame came before these calls, and a receive gets it after them.
 #[test]
 fn a_role_without_requests_keeps_what_came(rt: HostRuntime) {
     let alloc = rt.alloc();

@@ -1,4 +1,4 @@
-//! A pair: one peer, and what waits for it.
+//! A pair: one peer, and the sends that wait for it.
 use crate::checks::plays;
 
 #[test]

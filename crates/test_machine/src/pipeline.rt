@@ -1,4 +1,4 @@
-//! Push and pull: whose turn it is, and what is kept.
+//! Push and pull: whose turn it is, and what is queued.
 use crate::checks::{holds, plays};
 use crate::machines::push_plays;
 use proto_pipeline::Push;
@@ -73,7 +73,7 @@ fn with_frame(alloc: Global, frame: Message) -> Result<Push, NoMemory> {
     }
 }
 
-// A push on which such a frame came.
+// A push on which a frame with a header came.
 fn framed(alloc: Global) -> Result<Push, NoMemory> {
     let frame = headed(alloc)?;
     with_frame(alloc, frame)

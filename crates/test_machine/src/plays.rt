@@ -1,19 +1,19 @@
-//! A play of a machine as a text. Each line is a call of it, with what it returns:
+//! A play of a machine as a text. Each line is a call, with what it returns:
 //!
 //! | call | words |
 //! |---|---|
 //! | the machine is of this role, raw or cooked | `is bus raw` |
-//! | there is memory for the pending operations of so many slots | `reserve 2` |
+//! | there is memory for the pending operations of 2 slots | `reserve 2` |
 //! | the pipe comes up; it can't, since another one is up; it goes down | `up 1`, `refused 2`, `down 1` |
 //! | whether frames of the pipe are wanted | `wants 1 yes` |
-//! | the frame comes on the pipe; the same, and it is no message of the protocol | `frame 1 'a`, `malformed 1 '` |
+//! | the frame comes on the pipe; the same, and it is malformed | `frame 1 'a`, `malformed 1 '` |
 //! | a turn begins; the pipe has no room in this turn | `fresh`, `full 1` |
-//! | the clock; the clock a millisecond before this moment | `clock 1000ms`, `clock 2min`, `before 1000ms` |
+//! | the time; the time a millisecond before this moment | `clock 1000ms`, `clock 2min`, `before 1000ms` |
 //! | the close | `close` |
 //! | the context is opened; it is shut | `open 1`, `shut 1` |
-//! | a topic of the context is put on, and whether that changes something | `put_on 0 'a yes` |
-//! | it is taken off, and whether that does | `take_off 0 'a no` |
-//! | whether a message is kept for the context | `keeps 0 no` |
+//! | the context subscribes to a topic, and whether that is a change | `put_on 0 'a yes` |
+//! | it unsubscribes, and whether that is a change | `take_off 0 'a no` |
+//! | whether a message is queued for the context | `keeps 0 no` |
 //! | whether an operation may begin on the context | `check 0 send ok`, `check 0 receive not_supported` |
 //! | a receive begins: its slot, and its context | `receive 1 0` |
 //! | a send begins: its slot, its context, and its message | `send 0 0 ' 'ping` |
@@ -21,26 +21,26 @@
 //! | the receive can be given a message | `can_give 1` |
 //! | the send can go out on the pipe, or on all pipes | `can_send 0 1`, `can_flood 0` |
 //! | the send can be dropped, since its pipe is down | `can_drop 1` |
-//! | the receive is to end for this cause | `can_finish 1 superseded` |
+//! | the receive should end for this cause | `can_finish 1 superseded` |
 //! | the request of the context can go out again on the pipe | `can_resend 0 2` |
 //! | whether the send may go to the pipe | `goes_to 0 1 yes` |
 //! | the copy of the send for the pipe; there is none | `copy 0 1 80000000' 's`, `no_copy 0 2` |
 //! | the request of the context goes out again on the pipe | `resend 0 2 80000000' 'a` |
-//! | none does: there is no copy | `no_resend 0 1` |
+//! | no request does: there is no copy | `no_resend 0 1` |
 //! | the receive gets this message | `gets 1 ' 'pong` |
 //! | the same, and the second operation begins, a send of it on context 0 | `passes_on 0 1 00000001' 'm` |
 //! | the send goes out on the pipe as this message | `goes_out 0 1 80000000' 'ping` |
-//! | the send ends, which went to many pipes | `ends 0` |
-//! | the send ends, which went nowhere, without a message | `ends_nowhere 1` |
+//! | the send ends, after going to many pipes | `ends 0` |
+//! | the send ends without a message, after going to no pipe | `ends_nowhere 1` |
 //! | the send is lost, and hands its message back | `hands_back 1 00000005' 'y` |
 //! | the receive is lost | `loses 0` |
 //!
-//! Pipes and contexts stand by their numbers. An operation stands by its slot, and is the first one of it; `1.7` is the
-//! seventh one of slot 1. A message is its header and its body. Bytes are hexadecimal digits, an apostrophe, and text:
-//! `80000000'a`, `'pong`, `'` for none. `'m*1000` is a text a thousand times.
+//! Pipes and contexts are written as their numbers. An operation is written as its slot, and is the first one of it;
+//! `1.7` is the seventh one of slot 1. A message is its header and its body. Bytes are hexadecimal digits, an
+//! apostrophe, and text: `80000000'a`, `'pong`, `'` for no bytes. `'m*1000` is a text a thousand times.
 //!
 //! A line of rounds, `for 1..40: up # | frame # 80%'a`, has calls with bars between them, which are made for each
-//! number, upwards or downwards. There `#` is the number, `&` the next one, and `%` six hexadecimal digits of the
+//! number, upwards or downwards. In them `#` is the number, `&` the next one, and `%` six hexadecimal digits of the
 //! number.
 ghost use Rattle.std.specs.Prelude.{◌<◌};
 
@@ -55,7 +55,7 @@ use sp_msg::Message;
 use sp_proto::{Act, Offer, Proto, UpFault, Verb, Verdict};
 use std::alloc::Global;
 
-/// The number of the first line that is not so, or is no call, from 1 on.
+/// The number (from 1 on) of the first line that isn't right, or isn't a call.
 pub fn wrong_line<M: Proto>(m: &mut M, alloc: Global, play: &str) -> Option<usize> {
     let mut n = 0usize;
     for line in play.lines() {
@@ -74,7 +74,7 @@ fn is_right<M: Proto>(m: &mut M, alloc: Global, line: &str) -> bool {
     }
 }
 
-// The calls are made for each number, and are so.
+// Makes the calls for each number, and returns whether they are right.
 fn are_so<M: Proto>(m: &mut M, alloc: Global, rounds: &str) -> bool {
     let Some((numbers, calls)) = rounds.split_once(':') else {
         return false;
@@ -97,7 +97,7 @@ fn are_so_from<M: Proto>(m: &mut M, alloc: Global, first: u32, last: u32, calls:
     true
 }
 
-// The number so many steps behind the first one, on the way to the last.
+// The number `steps` steps after the first one, on the way to the last.
 fn behind(first: u32, last: u32, steps: u32) -> u32 {
     if first <= last {
         first.saturating_add(steps)
@@ -122,8 +122,8 @@ fn are_calls_so<M: Proto>(m: &mut M, alloc: Global, calls: &str) -> bool {
     true
 }
 
-// The line is empty, or it is so. The words after the name are told apart by their count, and by which of them are
-// names of pipes, contexts or operations.
+// Returns whether the line is empty or right. The words after the name are told apart by their count, and by which of
+// them are names of pipes, contexts or operations.
 fn is_so<M: Proto>(m: &mut M, alloc: Global, line: &str) -> bool {
     let mut words = line.split_whitespace();
     let Some(name) = words.next() else {
@@ -194,7 +194,7 @@ fn with_number<M: Proto>(m: &mut M, name: &str, n: u32) -> bool {
     }
 }
 
-// It is told something, and returns nothing.
+// Makes a call that returns nothing. Returns whether there is such a call.
 fn is_told<M: Proto>(m: &mut M, name: &str, n: u32) -> bool {
     match name {
         "down" => m.down(PipeId(n)),
@@ -238,7 +238,7 @@ fn with_word<M: Proto>(m: &mut M, alloc: Global, name: &str, op: OpName, word: &
     }
 }
 
-// The frame comes, and is found to be this.
+// Returns whether the frame gets this verdict.
 fn is_found<M: Proto>(m: &mut M, alloc: Global, p: u32, frame: &str, what: Verdict) -> bool {
     match bytes(alloc, frame) {
         None => false,
@@ -291,7 +291,7 @@ fn with_words<M: Proto>(
     }
 }
 
-// Whether an operation may begin.
+// Returns whether an operation may begin.
 fn checks<M: Proto>(m: &M, c: u32, verb: &str, returned: &str) -> bool {
     match verb {
         "send" => word_of_check(m.check(Ctx(c), Verb::Send)) == returned,
@@ -300,7 +300,7 @@ fn checks<M: Proto>(m: &M, c: u32, verb: &str, returned: &str) -> bool {
     }
 }
 
-// The topic is put on or taken off, and whether that changes something.
+// Subscribes to the topic or unsubscribes from it, and returns whether the line's word for the change is right.
 fn switches<M: Proto>(
     m: &mut M,
     alloc: Global,
@@ -353,7 +353,7 @@ fn with_message<M: Proto>(
     }
 }
 
-// The operation begins.
+// Begins the operation, and returns whether it began.
 fn begins<M: Proto>(m: &mut M, op: OpName, c: Ctx, act: Act) -> bool {
     if m.reserve(1).is_err() {
         return false;
@@ -361,7 +361,7 @@ fn begins<M: Proto>(m: &mut M, op: OpName, c: Ctx, act: Act) -> bool {
     m.begin(op, c, act).is_ok()
 }
 
-// A send of the message begins.
+// Begins a send of the message, and returns whether it began.
 fn sends<M: Proto>(m: &mut M, op: OpName, c: Ctx, message: Option<Message>) -> bool {
     match message {
         None => false,
@@ -369,7 +369,7 @@ fn sends<M: Proto>(m: &mut M, op: OpName, c: Ctx, message: Option<Message>) -> b
     }
 }
 
-// The receive gets this message, and a send of it begins.
+// Returns whether the receive gets this message, and a send of it begins.
 fn passes_on<M: Proto>(
     m: &mut M,
     alloc: Global,
@@ -386,7 +386,7 @@ fn passes_on<M: Proto>(
     }
 }
 
-// Each of the lines is wrong for a bus.
+// Returns whether each of the lines is wrong for a bus.
 fn are_wrong(alloc: Global, lines: &str) -> bool {
     for line in lines.lines() {
         if line_wrong_for(alloc, "bus", line) != Some(1) {

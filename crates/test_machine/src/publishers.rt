@@ -1,4 +1,4 @@
-//! A publisher: to whom a publication goes.
+//! A publisher: the pipes that a publication goes to.
 use crate::checks::plays;
 
 #[test]

@@ -1,4 +1,5 @@
-//! A rep answers whom it was asked by, and bounds how far a request came. A respondent is a rep in all of this.
+//! A rep replies to the pipe of the request, and limits how many hops a request may take. A respondent does the same in
+//! all of this.
 use crate::checks::plays;
 
 #[test]
@@ -173,7 +174,7 @@ fn a_raw_replier_shows_its_pipe_and_the_backtrace(rt: HostRuntime) {
 
 #[test]
 fn fifteen_words_make_a_header_of_64_bytes(rt: HostRuntime) {
-    // Fourteen hops, a request's id, and `q`. Received, the number of the pipe stands before them.
+    // Fourteen hops, a request's id, and `q`. When received, they follow the number of the pipe.
     let play = "
         reserve 2
         up 1

@@ -45,7 +45,7 @@ fn a_send_that_waits_goes_out_before_a_request_that_is_due(rt: HostRuntime) {
     plays(&rt, rt.alloc(), "req", play);
 }
 
-// A req that is raw keeps the header; one that is not writes its own.
+// A raw req keeps the header; a cooked one writes its own.
 #[test]
 fn six_requests_go_to_two_pipes_in_turn(rt: HostRuntime) {
     let play = "
@@ -112,7 +112,7 @@ fn a_pipe_that_hangs_is_not_the_next_again(rt: HostRuntime) {
     plays(&rt, rt.alloc(), "req", play);
 }
 
-// With each turn one pipe more counts as roomy: pipe 1, then 2, then 3, and pipe 1 once more.
+// In each turn one more pipe counts as having room: pipe 1, then 2, then 3, and pipe 1 once more.
 #[test]
 fn a_full_pipe_is_asked_again_in_its_turn(rt: HostRuntime) {
     let play = "
@@ -184,7 +184,7 @@ fn a_pipe_on_which_a_request_went_out_is_asked_first(rt: HostRuntime) {
     plays(&rt, rt.alloc(), "req", play);
 }
 
-// The same of a request that is due.
+// The same for a request that is due.
 #[test]
 fn a_pipe_on_which_a_request_went_out_again_is_asked_first(rt: HostRuntime) {
     let play = "
@@ -223,7 +223,7 @@ fn a_pipe_on_which_a_request_went_out_again_is_asked_first(rt: HostRuntime) {
     plays(&rt, rt.alloc(), "req", play);
 }
 
-// Nor does it hide one that has room.
+// It doesn't hide a pipe that has room either.
 #[test]
 fn a_pipe_that_went_down_is_not_asked(rt: HostRuntime) {
     let play = "
@@ -259,7 +259,7 @@ fn eight_requests_in_one_turn_go_to_eight_pipes(rt: HostRuntime) {
     plays(&rt, rt.alloc(), "req dice=1", play);
 }
 
-// One more than a socket may have, with its own.
+// One more than a socket may have, its own included.
 #[test]
 fn a_req_has_4097_live_requests(rt: HostRuntime) {
     let play = "

@@ -1,4 +1,4 @@
-//! A sub keeps what its topics match, with a queue of two messages.
+//! A sub queues what its topics match, with a queue of two messages.
 use crate::checks::plays;
 
 #[test]

@@ -1,4 +1,4 @@
-//! Many topics: what a sub keeps is what one of its topics is a prefix of, each looked at alone.
+//! Many topics: a sub queues the messages of which one of its topics is a prefix, each tested by itself.
 use crate::checks::{holds, plays};
 use sp_base::{NoMemory, next_value};
 use std::alloc::Global;
@@ -14,12 +14,12 @@ fn word(alloc: Global, n: u64) -> Result<String, NoMemory> {
     Ok(letters)
 }
 
-// One of the topics is a prefix of the body.
+// Returns whether one of the topics is a prefix of the body.
 fn is_wanted(topics: &[String], body: &str) -> bool {
     topics.iter().any(|t| body.starts_with(t.as_str()))
 }
 
-// The topic is among these.
+// Returns whether the topic is among these.
 fn is_on(topics: &[String], topic: &str) -> bool {
     topics.iter().any(|t| t.as_str() == topic)
 }
@@ -33,7 +33,7 @@ fn add(play: &mut String, begin: &str, text: &str, end: &str) -> Result<(), NoMe
     Ok(())
 }
 
-// The topic is put on, and whether that changes something.
+// Appends a subscription to the topic, with whether it is a change.
 fn put_on(play: &mut String, topics: &mut Vec<String>, topic: String) -> Result<(), NoMemory> {
     let is_new = !is_on(topics, topic.as_str());
     add(
@@ -48,7 +48,7 @@ fn put_on(play: &mut String, topics: &mut Vec<String>, topic: String) -> Result<
     Ok(())
 }
 
-// It is taken off, and whether that does.
+// Appends its unsubscription, with whether that is a change.
 fn take_off(play: &mut String, topics: &mut Vec<String>, topic: &str) -> Result<(), NoMemory> {
     let was_on = is_on(topics, topic);
     topics.retain(|t| t.as_str() != topic);
@@ -60,7 +60,7 @@ fn take_off(play: &mut String, topics: &mut Vec<String>, topic: &str) -> Result<
     )
 }
 
-// The frame comes, and is kept and received exactly where a topic of the list is its prefix.
+// Appends the frame, which is queued and received just where a topic of the list is its prefix.
 fn brings(play: &mut String, topics: &[String], body: &str) -> Result<(), NoMemory> {
     add(play, "frame 1 '", body, "")?;
     if is_wanted(topics, body) {
@@ -69,7 +69,7 @@ fn brings(play: &mut String, topics: &[String], body: &str) -> Result<(), NoMemo
     add(play, "keeps 0 no", "", "")
 }
 
-// Of so many steps some put a topic on, some take one off, and the others bring a frame.
+// A play of `count` steps, of which some subscribe, some unsubscribe, and the others bring a frame.
 fn steps(alloc: Global, count: u32) -> Result<String, NoMemory> {
     let mut play = String::new(alloc);
     let mut topics = Vec::new(alloc);
@@ -95,7 +95,8 @@ fn a_frame_is_kept_where_a_topic_is_its_prefix(rt: HostRuntime) {
     }
 }
 
-// A body that is wanted by none of the topics, and one that is. Both are longer than any topic. Then the empty topic, and an empty body.
+// A body that no topic matches, and one that a topic matches. Both are longer than any topic. Then the empty topic, and
+// an empty body.
 #[test]
 fn ten_thousand_topics_of_one_length(rt: HostRuntime) {
     let play = "
@@ -115,7 +116,7 @@ fn ten_thousand_topics_of_one_length(rt: HostRuntime) {
     plays(&rt, rt.alloc(), "sub", play);
 }
 
-// Topics of no byte, of one and of the most that a socket takes, among few topics and among many.
+// Topics of no byte, of one byte and of the greatest length, among few topics and among many.
 #[test]
 fn topics_of_no_byte_and_of_the_most(rt: HostRuntime) {
     let play = "
@@ -168,7 +169,7 @@ fn topics_of_no_byte_and_of_the_most(rt: HostRuntime) {
     plays(&rt, rt.alloc(), "sub", play);
 }
 
-// Of 1 to 200 letters. Those of fewer than 191 are then taken off, and those of 191 to 199.
+// Of 1 to 200 letters. Those of fewer than 191 letters are then removed, and those of 191 to 199.
 #[test]
 fn two_hundred_topics_of_which_each_is_a_prefix_of_the_next(rt: HostRuntime) {
     let play = "

@@ -1,11 +1,11 @@
-//! The words of a play: results as words, and bytes. `None` where it is no such word, or memory is short.
+//! The words of a play: results as words, and bytes. `None` where it isn't such a word, or there is no memory.
 use sp_base::OpName;
 use sp_history::entry::Cause;
 use sp_msg::Message;
 use sp_proto::CheckError;
 use std::alloc::Global;
 
-/// What the number stands for: the first operation of its slot, or a pipe or a context. `1.7` is the seventh operation.
+/// What the number names: the first operation of its slot, or a pipe or a context. `1.7` is the seventh operation.
 pub fn named(word: &str) -> Option<OpName> {
     let (slot, generation) = match word.split_once('.') {
         Some(parts) => parts,
@@ -25,7 +25,7 @@ pub fn milliseconds(word: &str) -> Option<u64> {
     word.strip_suffix("ms")?.parse::<u64>().ok()
 }
 
-/// The word for whether it holds.
+/// The word for true or false.
 pub fn yes_or_no(it: bool) -> &'static str {
     if it { "yes" } else { "no" }
 }
@@ -35,7 +35,7 @@ pub fn raw_or_cooked(raw: bool) -> &'static str {
     if raw { "raw" } else { "cooked" }
 }
 
-/// The word for why an operation is to end.
+/// The word for the cause for which an operation should end.
 pub fn cause(why: Cause) -> &'static str {
     match why {
         Cause::Cancelled => "cancelled",
@@ -46,7 +46,7 @@ pub fn cause(why: Cause) -> &'static str {
     }
 }
 
-/// The word for what a check of an operation returned.
+/// The word for the result of a check of an operation.
 pub fn word_of_check(returned: Result<(), CheckError>) -> &'static str {
     match returned {
         Ok(()) => "ok",
@@ -76,7 +76,7 @@ fn from_hex(alloc: Global, hex: &[u8]) -> Option<Vec<u8>> {
     Some(bytes)
 }
 
-// Appends the text so many times.
+// Appends the text `times` times.
 fn append(bytes: &mut Vec<u8>, text: &[u8], times: u32) -> Option<()> {
     for _ in 0..times {
         bytes.extend_from_slice(text).ok()?;
@@ -104,7 +104,7 @@ fn hexadecimal(alloc: Global, n: u32) -> Option<String> {
     Some(text)
 }
 
-/// The calls of the round of this number.
+/// The calls of the round with this number.
 pub fn round(alloc: Global, n: u32, calls: &str) -> Option<String> {
     let number = n.to_string(alloc).ok()?;
     let next = n.saturating_add(1).to_string(alloc).ok()?;
@@ -122,7 +122,7 @@ pub fn round(alloc: Global, n: u32, calls: &str) -> Option<String> {
     Some(text)
 }
 
-// Appends these words to the header.
+// Appends these words to the header, and returns whether it could.
 fn heads(m: &mut Message, header: &[u8]) -> bool {
     for word in header.chunks(4) {
         let [a, b, c, d] = word else {
@@ -149,7 +149,7 @@ pub fn message(alloc: Global, header: &str, body: &str) -> Option<Message> {
     }
 }
 
-/// The message has this header and this body.
+/// Returns whether the message has this header and this body.
 pub fn is_message(alloc: Global, m: &Message, header: &str, body: &str) -> bool {
     match (bytes(alloc, header), bytes(alloc, body)) {
         (Some(header), Some(body)) => m.header() == &header[..] && m.body() == &body[..],
@@ -157,7 +157,7 @@ pub fn is_message(alloc: Global, m: &Message, header: &str, body: &str) -> bool 
     }
 }
 
-/// There is a message, with this header and this body.
+/// Returns whether there is a message with this header and this body.
 pub fn is_this(alloc: Global, m: Option<Message>, header: &str, body: &str) -> bool {
     match m {
         None => false,

@@ -1,4 +1,4 @@
-//! The real outside byte for byte: what no clause can say of the machine's sockets, files and output.
+//! The real system byte for byte: what no clause can say about the machine's sockets, files and output.
 use crate::bytes::patterned;
 use crate::checks::made;
 use crate::files::{files_fail, files_give};
@@ -7,7 +7,7 @@ use crate::nets::plays;
 use crate::outputs::puts;
 use sp_base::Sunk;
 
-// More bytes than the sockets of a link hold on their way.
+// More bytes than the sockets of a link hold in transit.
 #[test]
 fn pieces_larger_than_the_sockets_hold_pass_byte_for_byte(rt: HostRuntime) {
     plays(&rt, "carries 12000000 28115");
@@ -59,7 +59,7 @@ fn marks_of_links_that_are_back_serve_again(rt: HostRuntime) {
     real_plays(&rt, "marks 500 28435");
 }
 
-// The machine takes port after port for the own end of a connection, and so the port itself once.
+// The machine tries one port after another for the own end of a connection, and so the port itself once.
 #[test]
 fn a_connection_to_itself_is_refused(rt: HostRuntime) {
     real_plays(&rt, "alone 45000 42424");
@@ -120,7 +120,7 @@ fn a_slow_output_takes_all_that_was_put(rt: HostRuntime) {
     puts(&rt, "slow", &bytes, Sunk::Done, 1_000);
 }
 
-// As of a pipe that was closed, a device that is full, and one that takes nothing.
+// Like a closed pipe, a full device, and an output that takes nothing.
 #[test]
 fn an_output_that_fails_is_a_fault(rt: HostRuntime) {
     for word in "broken_pipe storage_full other takes_nothing".split(' ') {

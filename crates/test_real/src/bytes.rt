@@ -4,12 +4,12 @@ ghost use Rattle.std.specs.Prelude.{◌<◌, length, IfOk};
 use sp_base::NoMemory;
 use std::alloc::Global;
 
-// The byte at a place of what is sent, another at neighbouring places.
+// The byte at a place of what is sent; neighbouring places have different bytes.
 fn pattern(at: usize) -> u8 {
     (at.wrapping_mul(7).wrapping_add(at / 251) % 251) as u8
 }
 
-/// So many of them.
+/// The first `n` bytes of the pattern.
 pub fn patterned(alloc: Global, n: usize) -> Result<Vec<u8>, NoMemory>
     ensures { IfOk result (λ v. 0 < n → 0 < length v.items) }
 {
@@ -20,7 +20,7 @@ pub fn patterned(alloc: Global, n: usize) -> Result<Vec<u8>, NoMemory>
     Ok(bytes)
 }
 
-/// So many, each of which says how many are left.
+/// `n` bytes, each of which says how many are left.
 pub fn counted(alloc: Global, n: u32) -> Result<Vec<u8>, NoMemory> {
     let mut bytes = Vec::new(alloc);
     for gone in 0..n {

@@ -1,14 +1,14 @@
-//! What files give, as lines of a text:
+//! The contents of files, as lines of a text:
 //!
 //! | line | what it says |
 //! |---|---|
 //! | `empty /dev/null` | the file has no byte |
 //! | `some /etc/passwd` | it has some |
 //! | `fails /no/such/file` | it can't be read |
-//! | `write 200000 bytes_of_a_test` | so many bytes are written to it |
-//! | `whole 200000 bytes_of_a_test` | it gives just these |
+//! | `write 200000 bytes_of_a_test` | 200,000 bytes are written to it |
+//! | `whole 200000 bytes_of_a_test` | it gives exactly these bytes |
 //! | `remove bytes_of_a_test` | it is removed |
-//! | `counted 20000 -` | it gives so many bytes, each of which says how many are left |
+//! | `counted 20000 -` | it gives 20,000 bytes, each of which says how many are left |
 use crate::bytes::{counted, patterned};
 use crate::checks::{holds, is_right, made};
 use cat_run::real::RealFiles;
@@ -18,7 +18,7 @@ use std::fs;
 use std::process::Abort;
 use std::rt::{Clock, Files as SystemFiles};
 
-// Whether the file gives these bytes; none where it can't be read.
+// Returns whether the file gives these bytes; `None` where it can't be read.
 fn gives<F: Files>(files: &mut F, name: &str, wanted: Option<&[u8]>) -> bool {
     match files.whole(name) {
         Whole::Bytes(bytes) => match wanted {
@@ -58,7 +58,7 @@ fn is_counted_so<F: Files, S: SystemFiles>(
     }
 }
 
-// Whether the line is so; none where it is no line.
+// Returns whether the line is right; `None` where it isn't a line.
 fn is_so<F: Files, S: SystemFiles>(
     system: &S,
     files: &mut F,
@@ -81,7 +81,7 @@ fn is_so<F: Files, S: SystemFiles>(
     }
 }
 
-// The number of the first line that is not so, from 1 on.
+// The number of the first line that isn't right, from 1 on.
 fn wrong_line<F: Files, S: SystemFiles>(
     system: &S,
     files: &mut F,
@@ -99,7 +99,7 @@ fn wrong_line<F: Files, S: SystemFiles>(
     None
 }
 
-/// The files of this system give what the lines say.
+/// Aborts where the files of this system don't give what the lines say.
 pub fn files_give<
     R: SystemFiles + Input + Clock + AllocGlobal + Drop,
     S: SystemFiles + AllocGlobal + Abort,
@@ -108,7 +108,7 @@ pub fn files_give<
     is_right(rt, wrong_line(rt, &mut files, rt.alloc(), lines));
 }
 
-/// A file of this system fails, for this reason.
+/// Aborts where this file of this system doesn't fail for this reason.
 pub fn files_fail<R: SystemFiles + Input + Clock + AllocGlobal + Drop, S: AllocGlobal + Abort>(
     rt: &S,
     system: R,

@@ -9,7 +9,8 @@ use std::process::Abort;
 use std::rt::{Clock, Files as SystemFiles};
 use std::time::Duration;
 
-/// Gives so many bytes, one at a read, and then its end or a fault. One that doesn't wait has none at each second read.
+/// An input that gives `left` bytes, one at a read, and then its end or a fault. Without `waits` it has none at every
+/// second read.
 #[derive(Clone, Copy, Debug, Drop)]
 struct CountedInput {
     left: u32,
@@ -143,7 +144,7 @@ impl<R: SystemFiles + Drop> SystemFiles for MachineFiles<R> {
     }
 }
 
-// What standard input gives that has so many bytes, and then fails or ends, and other files beside it.
+// Checks what standard input gives that has `left` bytes and then fails or ends, and what other files give.
 fn input_gives<R: SystemFiles + AllocGlobal + Abort + Clone + Drop>(
     rt: &R,
     left: u32,
@@ -173,13 +174,13 @@ fn an_input_gives_all_its_bytes(rt: HostRuntime) {
     input_gives(&rt, 20_000, false, true, "counted 20000 -");
 }
 
-// As a pipe with O_NONBLOCK (open(2)).
+// Like a pipe with O_NONBLOCK (open(2)).
 #[test]
 fn an_input_that_does_not_wait_is_waited_for(rt: HostRuntime) {
     input_gives(&rt, 20_000, false, false, "counted 20000 -");
 }
 
-// Also where bytes came before: a part of an input is no file.
+// This is so where bytes came before, too: a part of an input is not a file.
 #[test]
 fn an_input_that_fails_is_a_fault(rt: HostRuntime) {
     let lines = "

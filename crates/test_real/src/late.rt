@@ -11,7 +11,7 @@ use std::process::Abort;
 use std::rt::Clock;
 use std::time::Duration;
 
-/// A clock that stands at so many milliseconds.
+/// A clock that is set in milliseconds.
 #[derive(Drop)]
 struct SetClock<'a> {
     now: &'a Cell<u64>,
@@ -27,7 +27,7 @@ impl<'a> Clock for SetClock<'a> {
     }
 }
 
-// What a dial comes to at this time.
+// The result of a dial at this time.
 fn dial_at<N: Net, P: Pace>(
     net: &mut N,
     pace: &mut P,
@@ -40,8 +40,8 @@ fn dial_at<N: Net, P: Pace>(
     dial(net, &address(1, port))
 }
 
-// A connection that isn't made is asked for until five seconds are over, and then another one is begun. None where
-// the port is taken.
+// A connection that isn't made is asked for until five seconds are over, and then another one begins. `None` where the
+// port is taken.
 fn is_given_up<R: std::net::Net + AllocGlobal + Abort + Clone + Drop>(
     rt: &R,
     port: u16,

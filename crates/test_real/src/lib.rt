@@ -1,5 +1,5 @@
-//! Tests of the real outside on this machine: its net, its pace, its output and its files, byte for byte. What of the
-//! net, the pace and the files is told stands in texts (`nets`, `links`, `files`).
+//! Tests of the real system on this machine: its net, its pace, its output and its files, byte for byte. What is said
+//! about the net, the pace and the files is written as texts (`nets`, `links`, `files`).
 #![tactic(auto)]
 
 #[cfg(test)]

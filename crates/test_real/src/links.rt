@@ -1,4 +1,4 @@
-//! What only the net and the pace of this machine do, as lines:
+//! Behavior that only the net and the pace of this machine have, as lines:
 //!
 //! | line | what it says |
 //! |---|---|
@@ -41,7 +41,7 @@ pub trait Rests: Pace {
     /// Rests for at most this many milliseconds.
     fn rests(&mut self, most: u64);
 
-    /// How many marks its net has.
+    /// The number of marks of its net.
     fn marks(&self) -> usize;
 }
 
@@ -60,7 +60,7 @@ impl<R: Clock + Drop> Rests for RealPace<R> {
 
 /// A link that may hold small messages back.
 pub trait Prompt: Link {
-    /// Whether it doesn't.
+    /// Returns whether it doesn't hold them back.
     fn is_prompt(&self) -> bool;
 }
 
@@ -72,10 +72,10 @@ impl Prompt for TcpLink {
 
 /// A net whose links go on after they were given back.
 pub trait Finishes<P>: Net {
-    /// How many of them were not whole at the end.
+    /// Finishes these links, and returns how many were not whole at the end.
     fn finishes(&mut self, pace: &mut P) -> u32;
 
-    /// Why it failed last.
+    /// The reason of its last failure.
     fn says(&self) -> Option<NetFault>;
 }
 
@@ -89,14 +89,14 @@ impl<R: std::net::Net + Drop, C: Clock + Drop> Finishes<RealPace<C>> for TcpNet<
     }
 }
 
-/// What a dial comes to.
+/// The result of a dial.
 #[derive(Clone, Copy, Debug, PartialEq, Eq)]
 pub enum DialEnd {
     /// A link, which is given back.
     Links,
-    /// Nobody is there.
+    /// There is no link.
     NotYet,
-    /// It is under way.
+    /// The connection has begun.
     Begun,
     Fails,
 }
@@ -120,19 +120,19 @@ fn here(port: u16) -> SocketAddr {
     SocketAddr::new(IpAddr::V4(Ipv4Addr::new(127, 0, 0, 1)), port)
 }
 
-// How many milliseconds a rest of at most so many takes.
+// The milliseconds that a rest of at most `most` takes.
 fn rest_takes<S: Clock, P: Rests>(system: &S, pace: &mut P, most: u64) -> Option<u128> {
     let start = Instant::now(system).ok()?;
     pace.rests(most);
     Some(start.elapsed(system).ok()?.as_millis())
 }
 
-// Whether a rest of a second ends within so many milliseconds.
+// Returns whether a rest of a second ends within `most` milliseconds.
 fn ends_within<S: Clock, P: Rests>(system: &S, pace: &mut P, most: u128) -> bool {
     matches!(rest_takes(system, pace, 1_000), Some(took) if took < most)
 }
 
-// Whether a byte ends a rest soon, and is there then.
+// Returns whether a byte ends a rest soon, and can then be read.
 fn byte_wakes<S: Clock, W: Write, L: Link, P: Rests>(
     system: &S,
     peer: &mut W,
@@ -150,7 +150,7 @@ fn byte_wakes<S: Clock, W: Write, L: Link, P: Rests>(
     nothing && soon && came
 }
 
-// In how many of 20 tries a byte does.
+// The number of tries, of 20, in which a byte does.
 fn bytes_wake<S: Clock, W: Write, L: Link, P: Rests>(
     system: &S,
     peer: &mut W,
@@ -169,7 +169,7 @@ fn bytes_wake<S: Clock, W: Write, L: Link, P: Rests>(
     soon
 }
 
-// Whether the one peer that is there ends a rest soon.
+// Returns whether the one peer that is there ends a rest soon.
 fn is_told<S: Clock, N: Net, P: Rests>(system: &S, net: &mut N, pace: &mut P, at: u32) -> bool
     requires { IsSome (map.get (N.seen net.old).listens at) }
     ensures { (N.seen net.new).listens ≡ (N.seen net.old).listens }
@@ -184,7 +184,7 @@ fn is_told<S: Clock, N: Net, P: Rests>(system: &S, net: &mut N, pace: &mut P, at
     }
 }
 
-// Whether each of two peers that dial ends a rest soon, and is there then.
+// Returns whether each of two peers that dial ends a rest soon, and can then be accepted.
 fn peers_are_told<S: std::net::Net + Clock, N: Net, P: Rests>(
     system: &S,
     net: &mut N,
@@ -203,7 +203,7 @@ fn peers_are_told<S: std::net::Net + Clock, N: Net, P: Rests>(
     one.is_ok() && other.is_ok() && first && second
 }
 
-// In how many of 20 tries both do.
+// The number of tries, of 20, in which both do.
 fn peers_wake<S: std::net::Net + Clock, N: Net, P: Rests>(
     system: &S,
     net: &mut N,
@@ -222,7 +222,7 @@ fn peers_wake<S: std::net::Net + Clock, N: Net, P: Rests>(
     soon
 }
 
-// Whether room on a full link ends a rest soon. The peer takes what is on its way.
+// Returns whether room on a full link ends a rest soon. The peer takes what is in transit.
 fn room_wakes<S: Clock, R: Read, L: Link, P: Rests>(
     system: &S,
     peer: &mut R,
@@ -339,7 +339,7 @@ fn meets<N: Net, P: Pace>(net: &mut N, pace: &mut P, at: u32, addr: &Addr) -> bo
     }
 }
 
-// Makes so many pairs, one after the other.
+// Makes `count` pairs, one after another, and returns whether it could.
 fn meets_often<N: Net, P: Pace>(
     net: &mut N,
     pace: &mut P,
@@ -360,7 +360,7 @@ fn meets_often<N: Net, P: Pace>(
     true
 }
 
-// Whether so many pairs need few marks beside those of one that stays, on which a byte passes at the end.
+// Returns whether `count` pairs need few marks beside those of one that stays, on which a byte passes at the end.
 fn needs_few_marks<N: Net, P: Rests>(
     net: &mut N,
     pace: &mut P,
@@ -378,7 +378,7 @@ fn needs_few_marks<N: Net, P: Rests>(
     Some(met && few && passes)
 }
 
-// Whether so many dials in a row find nobody.
+// Returns whether `count` dials in a row find no listener.
 fn is_alone<N: Net>(net: &mut N, addr: &Addr, count: usize) -> bool
     requires { is_dialable addr.now ≡ true }
 {
@@ -390,7 +390,7 @@ fn is_alone<N: Net>(net: &mut N, addr: &Addr, count: usize) -> bool
     true
 }
 
-// Writes what the peer's socket takes at once, of so many bytes.
+// Writes as much of the bytes as the peer's socket takes at once, and returns how many bytes it took.
 fn flood<W: Write>(peer: &mut W, bytes: &[u8]) -> usize {
     let mut sent = 0usize;
     for turn in 0..1_000 {
@@ -405,7 +405,7 @@ fn flood<W: Write>(peer: &mut W, bytes: &[u8]) -> usize {
     sent
 }
 
-// Reads until nothing is there, with a rest of no time behind each read; how many bytes came.
+// Reads until nothing is there, with a rest of no time after each read, and returns how many bytes came.
 fn drained<L: Link, P: Rests>(link: &mut L, pace: &mut P, buffer: &mut [u8]) -> usize
     requires open_ { (L.seen link.old).is_open ≡ true }
     requires room { 0 < length buffer.old }
@@ -424,7 +424,8 @@ fn drained<L: Link, P: Rests>(link: &mut L, pace: &mut P, buffer: &mut [u8]) -> 
     came
 }
 
-// Whether a link of a peer that sent so many bytes gives a part of them, the next rest is none, and more are there.
+// Returns whether a link of a peer that sent many bytes gives a part of them, the next rest ends at once, and more
+// bytes are there.
 fn gives_a_part<S: Clock, L: Link, P: Rests>(system: &S, link: &mut L, pace: &mut P) -> bool
     requires { (L.seen link.old).is_open ≡ true }
     ensures { (L.seen link.new).place ≡ (L.seen link.old).place }
@@ -453,7 +454,7 @@ fn floods<S: std::net::Net + Clock, N: Net, P: Rests>(
     Some(sent == bytes.len() && part)
 }
 
-/// Dials until a connection isn't made at once, since too many wait at the listener.
+/// Dials until a connection isn't made at once, since too many wait at the listener. Returns whether that came.
 pub fn fills<N: Net>(net: &mut N, addr: &Addr) -> bool
     requires { is_dialable addr.now ≡ true }
 {
@@ -466,7 +467,7 @@ pub fn fills<N: Net>(net: &mut N, addr: &Addr) -> bool
     false
 }
 
-// Accepts all that wait.
+// Accepts all connections that wait.
 fn take_all<A: OpenListener>(listener: &A) {
     for turn in 0..1_000 {
         if listener.accept().is_err() {
@@ -475,7 +476,8 @@ fn take_all<A: OpenListener>(listener: &A) {
     }
 }
 
-// Whether a connection under way is made once it is reported. The machine asks the peer again after a second.
+// Returns whether a connection that has begun is made once it is reported. The machine asks the peer again after a
+// second.
 fn is_made_later<S: std::net::Net + Clock, N: Net, P: Rests>(
     system: &S,
     net: &mut N,
@@ -492,7 +494,7 @@ fn is_made_later<S: std::net::Net + Clock, N: Net, P: Rests>(
     Some(begun && took < 7_000 && dial(net, &addr) == DialEnd::Links)
 }
 
-// Writes what a link takes at once; how many bytes.
+// Writes what a link takes at once, and returns how many bytes it took.
 fn fill_link<L: Link>(link: &mut L, bytes: &[u8]) -> usize
     requires { (L.seen link.old).is_open ≡ true }
     ensures { (L.seen link.new).place ≡ (L.seen link.old).place }
@@ -544,7 +546,7 @@ fn leaves_whole<
     Some(sent > 500_000 && came == sent && lost == 0)
 }
 
-// Whether two peers that don't end their streams are waited for, for two seconds in all.
+// Returns whether two peers that don't end their streams are waited for, for two seconds in all.
 fn waits_for_end<S: std::net::Net + Clock, N: Finishes<P>, P: Rests>(
     system: &S,
     net: &mut N,
@@ -570,7 +572,7 @@ fn waits_for_end<S: std::net::Net + Clock, N: Finishes<P>, P: Rests>(
     Some(lost == 2 && again == 0 && (1_900..3_900).contains(&took))
 }
 
-// What a listen at a place says that fails.
+// Returns whether a listen at a place fails for the reason that the line says.
 fn says<N: Finishes<P>, P: Pace>(
     net: &mut N,
     alloc: Global,
@@ -603,7 +605,7 @@ fn elsewhere(port: u16) -> Addr
     }
 }
 
-// Whether the line is so; none where it is no line, or no port is free.
+// Returns whether the line is right; `None` where it isn't a line, or no port is free.
 fn is_so<
     S: std::net::Net<Stream = TcpStream> + Clock + Threads + Sync,
     L: Prompt,
@@ -640,7 +642,7 @@ fn is_so<
     }
 }
 
-/// The line is so, of the net and the pace of this machine.
+/// Aborts where the line isn't right for the net and the pace of this machine.
 pub fn real_plays<
     R: std::net::Net<Stream = TcpStream>
         + Clock

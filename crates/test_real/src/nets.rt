@@ -2,17 +2,17 @@
 //!
 //! | line | what it says |
 //! |---|---|
-//! | `carries 12000000 28115` | so many bytes go there and back, over a link of the net to itself |
-//! | `talks 2 27815` | at so many ports nobody listens; then a byte goes there and back, and the port is in use |
+//! | `carries 12000000 28115` | 12,000,000 bytes go there and back, over a link of the net to itself |
+//! | `talks 2 27815` | 2 ports have no listener; then a byte goes there and back, and the port is in use |
 //! | `resets read 28155` | a peer resets the connection, and a read finds the fault |
 //! | `resets write 28235` | the same, and a write finds it |
 //! | `reaches one 28195` | a listener at one address of this machine is reached there, and not at another one |
 //! | `reaches every 28235` | a listener at every address is reached at both |
-//! | `rests 3 3` | after so many quiet turns the tick is this one or a later one |
-//! | `looks_again 101 5 5 50` | after so many quiet turns the shortest of so many rests takes 5 to 50 milliseconds |
+//! | `rests 3 3` | after 3 quiet turns the tick is 3 or later |
+//! | `looks_again 101 5 5 50` | after 101 quiet turns the shortest of 5 rests takes 5 to 50 milliseconds |
 //!
-//! The last number of a line of the net is a port: what it says goes on at the first of 30 ports that is free, from
-//! this one on. Where bytes go there and back nobody came and nothing was there before, and behind them comes the end.
+//! The last number of a line of the net is a port: the line uses the first free one of 30 ports from it on. Where bytes
+//! go there and back, no link and no byte came before, and the end comes after them.
 ghost use Rattle.std.specs.Prelude.{◌≡◌, ◌≤◌, ◌<◌, true, length, IsSome, IfSome};
 ghost use Rattle.std.specs.FinMap as map;
 ghost use Rattle.sp_base.specs.Addresses.{is_dialable, is_linked};
@@ -37,7 +37,7 @@ pub fn address(last: u8, port: u16) -> Addr
     }
 }
 
-// Where to listen: at every address, or at one.
+// The address to listen at: every address, or one.
 fn place(every: bool, port: u16) -> Addr
     ensures { is_linked result ≡ true }
 {
@@ -64,7 +64,7 @@ pub fn listening<N: Net>(net: &mut N, every: bool, first: u16) -> Option<(u32, u
     None
 }
 
-/// Gives back what there is.
+/// Gives the link back.
 pub fn done<N: Net>(net: &mut N, link: N::L)
     requires { (N.L.seen link).place < (N.seen net.old).opened }
     ensures opened { (N.seen net.new).opened ≡ (N.seen net.old).opened }
@@ -75,7 +75,7 @@ pub fn done<N: Net>(net: &mut N, link: N::L)
     net.give_back(link);
 }
 
-/// Accepts within 1,000 turns.
+/// Accepts a link within 1,000 turns.
 pub fn accepted<N: Net, P: Pace>(net: &mut N, at: u32, pace: &mut P) -> Option<N::L>
     requires { IsSome (map.get (N.seen net.old).listens at) }
     ensures link { IfSome result (λ l. ((N.L.seen l).is_open ≡ true) × ((N.L.seen l).place < (N.seen net.new).opened)) }
@@ -92,7 +92,7 @@ pub fn accepted<N: Net, P: Pace>(net: &mut N, at: u32, pace: &mut P) -> Option<N
     None
 }
 
-// Nobody has dialed yet, and this is no fault.
+// Returns whether an accept finds no link yet, which is no fault.
 fn nobody_comes<N: Net>(net: &mut N, at: u32) -> bool
     requires { IsSome (map.get (N.seen net.old).listens at) }
     ensures { (N.seen net.new).listens ≡ (N.seen net.old).listens }
@@ -107,7 +107,7 @@ fn nobody_comes<N: Net>(net: &mut N, at: u32) -> bool
     }
 }
 
-// Nobody listens there yet, and this is no fault.
+// Returns whether a dial finds no listener yet, which is no fault.
 fn is_refused<N: Net>(net: &mut N, addr: &Addr) -> bool
     requires { is_dialable addr.now ≡ true }
 {
@@ -121,7 +121,7 @@ fn is_refused<N: Net>(net: &mut N, addr: &Addr) -> bool
     }
 }
 
-/// Nothing is there to be read yet, and this is no fault.
+/// Returns whether a read finds nothing yet, which is no fault.
 pub fn nothing_comes<L: Link>(link: &mut L) -> bool
     requires { (L.seen link.old).is_open ≡ true }
     ensures place { (L.seen link.new).place ≡ (L.seen link.old).place }
@@ -131,7 +131,7 @@ pub fn nothing_comes<L: Link>(link: &mut L) -> bool
     matches!(link.read(&mut buffer), LinkRead::NotYet)
 }
 
-/// What a read comes to that finds something, within so many turns.
+/// The result of the first read that finds something, within a bounded number of turns.
 pub fn found<L: Link, P: Pace>(link: &mut L, pace: &mut P) -> LinkRead
     requires { (L.seen link.old).is_open ≡ true }
     ensures place { (L.seen link.new).place ≡ (L.seen link.old).place }
@@ -148,7 +148,7 @@ pub fn found<L: Link, P: Pace>(link: &mut L, pace: &mut P) -> LinkRead
     LinkRead::NotYet
 }
 
-// Writes until a fault, within so many turns.
+// Writes until a fault, within a bounded number of turns, and returns whether one came.
 fn write_fails<L: Link, P: Pace>(link: &mut L, pace: &mut P) -> bool
     requires { (L.seen link.old).is_open ≡ true }
     ensures { (L.seen link.new).place ≡ (L.seen link.old).place }
@@ -163,7 +163,7 @@ fn write_fails<L: Link, P: Pace>(link: &mut L, pace: &mut P) -> bool
     false
 }
 
-// A read finds the fault, or a write does.
+// Returns whether a write (`by_write`) or a read finds the fault.
 fn fails<L: Link, P: Pace>(by_write: bool, link: &mut L, pace: &mut P) -> bool
     requires { (L.seen link.old).is_open ≡ true }
     ensures { (L.seen link.new).place ≡ (L.seen link.old).place }
@@ -175,7 +175,7 @@ fn fails<L: Link, P: Pace>(by_write: bool, link: &mut L, pace: &mut P) -> bool
     }
 }
 
-/// Writes what the link takes of the bytes behind so many.
+/// Writes what the link takes of the bytes after the first `sent`, and returns how many were sent by now.
 pub fn write_on<L: Link>(link: &mut L, bytes: &[u8], sent: usize) -> Option<usize>
     requires { (L.seen link.old).is_open ≡ true }
     ensures place { (L.seen link.new).place ≡ (L.seen link.old).place }
@@ -192,7 +192,7 @@ pub fn write_on<L: Link>(link: &mut L, bytes: &[u8], sent: usize) -> Option<usiz
     }
 }
 
-// Whether the first bytes of the buffer are those behind so many. How many came by now, if they are.
+// The number of bytes that came by now, if the first `n` bytes of the buffer are those after the first `came`.
 fn came_on(buffer: &[u8], n: usize, bytes: &[u8], came: usize) -> Option<usize> {
     let all = came.saturating_add(n);
     if buffer.get(..n)? == bytes.get(came..all)? {
@@ -202,7 +202,7 @@ fn came_on(buffer: &[u8], n: usize, bytes: &[u8], came: usize) -> Option<usize> 
     }
 }
 
-// Reads once; how many came by now, where all of them were right.
+// Reads once, and returns how many bytes came by now, where all were right.
 fn read_on<L: Link>(link: &mut L, buffer: &mut [u8], bytes: &[u8], came: usize) -> Option<usize>
     requires open_ { (L.seen link.old).is_open ≡ true }
     requires room { 0 < length buffer.old }
@@ -217,8 +217,8 @@ fn read_on<L: Link>(link: &mut L, buffer: &mut [u8], bytes: &[u8], came: usize) 
     }
 }
 
-/// Whether all bytes pass from one link to the other as they are, though the sockets between may hold fewer. The pace
-/// rests at each turn, or, where many bytes go, at each hundredth.
+/// Returns whether all bytes pass from one link to the other as they are, though the sockets between may hold fewer.
+/// The pace rests at each turn, or, for many bytes, at each hundredth.
 pub fn carries<A: Link, B: Link, P: Pace>(
     from: &mut A,
     to: &mut B,
@@ -255,8 +255,8 @@ pub fn carries<A: Link, B: Link, P: Pace>(
     false
 }
 
-// Dials the own listener, sends the bytes each way, and ends. Whether nobody came before, nothing came before it was
-// sent, the bytes came as they are, and then the end.
+// Dials the own listener, sends the bytes each way, and ends. Returns whether no link came before, nothing came before
+// it was sent, the bytes came as they are, and then the end.
 fn talks_to_itself<N: Net, P: Pace>(
     net: &mut N,
     pace: &mut P,
@@ -287,7 +287,7 @@ fn talks_to_itself<N: Net, P: Pace>(
     Some(nobody_came && nothing_came && there && back && ended)
 }
 
-// So many bytes go there and back.
+// Sends `count` bytes there and back.
 fn carries_at<N: Net, P: Pace>(
     net: &mut N,
     pace: &mut P,
@@ -301,7 +301,7 @@ fn carries_at<N: Net, P: Pace>(
     talks_to_itself(net, pace, at, &address(1, port), &bytes, &mut buffer)
 }
 
-// Listens at a port that is free, talks to itself there, and tries to listen there again. None where the port is taken.
+// Listens at a free port, talks to itself there, and tries to listen there again. `None` where the port is taken.
 fn talks_at<N: Net, P: Pace>(net: &mut N, pace: &mut P, port: u16) -> Option<bool> {
     let addr = address(1, port);
     let refused = is_refused(net, &addr);
@@ -316,7 +316,7 @@ fn talks_at<N: Net, P: Pace>(net: &mut N, pace: &mut P, port: u16) -> Option<boo
     }
 }
 
-// Whether all went well at so many of 30 ports; none where too few were free.
+// Returns whether all went well at `count` of 30 ports; `None` where too few were free.
 fn talks_from<N: Net, P: Pace>(net: &mut N, pace: &mut P, count: u32, first: u16) -> Option<bool> {
     let mut well = 0u32;
     for step in 0..30 {
@@ -333,7 +333,8 @@ fn talks_from<N: Net, P: Pace>(net: &mut N, pace: &mut P, count: u32, first: u16
     None
 }
 
-// A peer that is gone while something that was sent to it is unread: the system resets the connection.
+// Closes a peer that has unread bytes, so that the system resets the connection, and returns whether the fault is
+// found.
 fn meets_a_reset<S: std::net::Net, N: Net, P: Pace>(
     system: &S,
     net: &mut N,
@@ -373,7 +374,7 @@ fn resets_at<S: std::net::Net, N: Net, P: Pace>(
     meets_a_reset(system, net, pace, at, port, by_write)
 }
 
-// Whether a dial reaches somebody, asked often.
+// Returns whether a dial, tried often, reaches a listener.
 fn reaches<N: Net, P: Pace>(net: &mut N, pace: &mut P, addr: &Addr) -> bool
     requires { is_dialable addr.now ≡ true }
 {
@@ -390,7 +391,7 @@ fn reaches<N: Net, P: Pace>(net: &mut N, pace: &mut P, addr: &Addr) -> bool
     false
 }
 
-// Whether a listener is reached at one address, and at another one just where it listens at every one.
+// Returns whether a listener is reached at one address, and at another just where it listens at every one.
 fn reaches_at<N: Net, P: Pace>(net: &mut N, pace: &mut P, at: &str, first: u16) -> Option<bool> {
     let every = match at {
         "one" => false,
@@ -403,7 +404,7 @@ fn reaches_at<N: Net, P: Pace>(net: &mut N, pace: &mut P, at: &str, first: u16) 
     Some(own && other == every)
 }
 
-// The tick behind so many turns after which nothing moved.
+// The tick after `turns` turns in which nothing moved.
 fn quiet<P: Pace>(pace: &mut P, turns: u32) -> u64 {
     let mut now = 0;
     for _ in 0..turns {
@@ -415,7 +416,7 @@ fn quiet<P: Pace>(pace: &mut P, turns: u32) -> u64 {
     now
 }
 
-// The shortest of so many rests.
+// The shortest of `rests` rests.
 fn shortest<P: Pace>(pace: &mut P, before: u64, rests: u32) -> u64 {
     let mut before = before;
     let mut shortest = u64::MAX;
@@ -427,7 +428,7 @@ fn shortest<P: Pace>(pace: &mut P, before: u64, rests: u32) -> u64 {
     shortest
 }
 
-// Whether the line of the pace is so, by two numbers or by four.
+// Returns whether the line of the pace, with two numbers or four, is right.
 fn paces<P: Pace>(pace: &mut P, name: &str, words: &str) -> Option<bool> {
     let (turns, rest) = words.split_once(' ')?;
     let turns = turns.parse::<u32>().ok()?;
@@ -445,7 +446,7 @@ fn paces<P: Pace>(pace: &mut P, name: &str, words: &str) -> Option<bool> {
     Some(least <= rest && rest <= most)
 }
 
-// Whether the line is so; none where it is no line, or no port is free.
+// Returns whether the line is right; `None` where it isn't a line, or no port is free.
 fn is_so<S: std::net::Net, N: Net, P: Pace>(
     system: &S,
     net: &mut N,
@@ -468,7 +469,7 @@ fn is_so<S: std::net::Net, N: Net, P: Pace>(
     }
 }
 
-/// The line is so, of the net and the pace of this machine.
+/// Aborts where the line isn't right for the net and the pace of this machine.
 pub fn plays<R: std::net::Net + Clock + AllocGlobal + Abort + Clone + Drop>(rt: &R, line: &str) {
     let mut pace = made(rt, RealPace::new(made(rt, rt.clone()), rt, rt.alloc()));
     let registry = made(rt, pace.registry());

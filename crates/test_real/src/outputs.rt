@@ -1,4 +1,4 @@
-//! Outputs that take little at a time, and what is put on them.
+//! Outputs that take few bytes at a time, and what is put on them.
 use crate::checks::holds;
 use cat_run::real::RealOut;
 use sp_base::{Sink, Sunk};
@@ -12,7 +12,7 @@ use std::time::Duration;
 /// When an output takes nothing.
 #[derive(Clone, Copy)]
 enum Stops {
-    /// At each third call, for now.
+    /// At every third call, only this time.
     Slow,
     /// From the second call on, with this fault.
     Fails(ErrorKind),
@@ -51,7 +51,7 @@ struct TestOutput<'a> {
 }
 
 impl<'a> TestOutput<'a> {
-    // Takes these bytes.
+    // Compares these bytes with the next ones that are wanted.
     fn take(&self, bytes: &[u8]) {
         let came = self.came.get();
         let all = came.saturating_add(bytes.len());
@@ -101,7 +101,8 @@ impl<'a> Clock for TestOutput<'a> {
     }
 }
 
-/// These bytes are put on an output that stops so: this is what it comes to, and so many of them came.
+/// Puts these bytes on an output that stops as `word` says, and aborts where the result isn't `sunk` or not `came`
+/// bytes came.
 pub fn puts(rt: &impl Abort, word: &str, bytes: &[u8], sunk: Sunk, came: usize) {
     let Some(stops) = stops_of(word) else {
         panic!(rt; "{word}");

@@ -1,4 +1,4 @@
-//! Runs over WebSocket on the machine's sockets, byte for byte: the peer writes and hears plain bytes.
+//! Runs over WebSocket on the machine's sockets, byte for byte: the peer writes and reads plain bytes.
 
 use crate::checks::{holds, made};
 use cat_run::real::{RealFiles, RealPace, TcpNet};
@@ -13,7 +13,7 @@ use std::rt::{Clock, Files as SystemFiles};
 use std::sync::Wait;
 use std::thread::Threads;
 
-// The sample head of the standard, of a req that asks a rep.
+// The sample head of the standard, from a req to a rep.
 const HEAD: &[u8] =
     b"GET / HTTP/1.1\r\nHost: 127.0.0.1:5555\r\nUpgrade: websocket\r\nConnection: Upgrade\r\nSec-WebSocket-Key: dGhlIHNhbXBsZSBub25jZQ==\r\nSec-WebSocket-Version: 13\r\nSec-WebSocket-Protocol: rep.sp.nanomsg.org\r\n\r\n";
 
@@ -50,7 +50,7 @@ fn met<R: std::net::Net>(rt: &R, end: &PeerEnd<R>) -> Option<R::Stream> {
     Some(stream)
 }
 
-// Takes what came, up to the end or until nothing is there.
+// Reads what came, up to the end or until nothing is there.
 fn hear<S: Read>(stream: &mut S, came: &mut Vec<u8>) {
     let mut buffer = [0u8; 256];
     for _ in 0..1_000 {
@@ -65,7 +65,7 @@ fn hear<S: Read>(stream: &mut S, came: &mut Vec<u8>) {
     }
 }
 
-/// A peer over a socket of this machine: once so many bytes came in all it says a text at each turn.
+/// A peer over a socket of this machine: once `after` bytes came in all, it sends a text at each turn.
 #[derive(Drop)]
 struct Peer<'a, R: std::net::Net + Drop> {
     rt: R,
@@ -78,7 +78,7 @@ struct Peer<'a, R: std::net::Net + Drop> {
 }
 
 impl<'a, R: std::net::Net + Drop> Peer<'a, R> {
-    // Takes what came, and says the next text.
+    // Reads what came, and sends the next text.
     fn turn(&mut self) {
         if self.stream.is_none() {
             self.stream = met(&self.rt, &self.end);
@@ -96,7 +96,7 @@ impl<'a, R: std::net::Net + Drop> Peer<'a, R> {
         }
     }
 
-    // All that came, up to the end.
+    // Reads to the end, and returns all that came.
     fn heard(self) -> Vec<u8> {
         let Peer {
             rt: _,
@@ -132,17 +132,17 @@ impl<'a, P: Pace + Drop, R: std::net::Net + Drop> Pace for PaceWithPeer<'a, P, R
     }
 }
 
-/// What a peer says and hears, and what the run prints.
+/// What a peer sends and receives, and what the run prints.
 #[derive(Clone, Copy)]
 struct Talk<'a> {
-    /// How many bytes come before it says something.
+    /// The number of bytes that come before it sends something.
     after: usize,
     says: &'a [&'a [u8]],
     hears: &'a [u8],
     prints: &'a [u8],
 }
 
-// The words of a run, and its peer's talk. Whether the run was done and all was so; none where the net failed.
+// Runs the words with a peer's talk. Returns whether the run was done and all was right; `None` where the net failed.
 fn is_so<
     R: std::net::Net
         + SystemFiles
@@ -197,7 +197,7 @@ pub(crate) fn here(port: u16) -> SocketAddr {
     SocketAddr::new(IpAddr::V4(Ipv4Addr::new(127, 0, 0, 1)), port)
 }
 
-// A rep at this port; its peer sends the head in two pieces, the second one with the request behind it.
+// Runs a rep at this port; its peer sends the head in two pieces, the second one followed by the request.
 fn rep_answers<
     R: std::net::Net
         + SystemFiles
@@ -243,7 +243,7 @@ fn a_pull_dials_a_websocket_of_this_machine(rt: HostRuntime) {
     holds(&rt, pull_dials(&rt) == Some(true));
 }
 
-// A pull that dials; its peer takes what it asks, and sends a message.
+// Runs a pull that dials; its peer answers its head, and sends a message.
 fn pull_dials<
     R: std::net::Net
         + SystemFiles

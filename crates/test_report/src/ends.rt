@@ -1,4 +1,4 @@
-//! What is said of each end of a run.
+//! The texts for each end of a run.
 use crate::checks::{holds, made, same};
 use crate::page::Page;
 use crate::plays::wrong_line;

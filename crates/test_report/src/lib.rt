@@ -1,5 +1,5 @@
-//! Tests of what nngcat says beside messages: each status with its lines, the texts that stand alone, spellings of
-//! NNG's own nngcat, and addresses.
+//! Tests of what nngcat prints besides messages: each status with its lines, separate texts, spellings of NNG's own
+//! nngcat, and addresses.
 #![tactic(auto)]
 
 #[cfg(test)]

@@ -14,7 +14,7 @@ pub struct Page {
 }
 
 impl Page {
-    /// An empty one.
+    /// An empty page.
     pub fn new(alloc: Global, fails: bool) -> Page {
         Page {
             alloc,

@@ -1,11 +1,12 @@
-//! A play of a report: a text, a call a line, and behind it what was said.
+//! A play of a report: a text with a call on each line, followed by what was said.
 //!
-//! - `words TEXT`: the words of the command, between single spaces; `words` alone: none.
-//! - `reason TEXT`: what the machine said; it stands until the next `words`.
-//! - `ends STATUS`: a run ends so. STATUS is `done`, `usage N`, `send`, `over`, `net`, `out`, `file` or `memory`.
+//! - `words TEXT`: the words of the command, between single spaces; `words` by itself: no words.
+//! - `reason TEXT`: what the machine said; it is kept until the next `words`.
+//! - `ends STATUS`: a run ends with this status. STATUS is `done`, `usage N`, `send`, `over`, `net`, `out`, `file` or
+//!   `memory`.
 //! - `unread STATUS`: the words could not be read.
 //! - `starts random`, `starts clock`: that part of the machine failed, for the reason.
-//! - `left N`: so many links were left.
+//! - `left N`: N links were left.
 //! - `says TEXT`: the next line that was said; `quiet`: nothing more was said.
 use crate::checks::made;
 use crate::page::Page;
@@ -14,14 +15,14 @@ use cat_run::Status;
 use std::alloc::Global;
 use std::process::Abort;
 
-/// What a play has so far.
+/// The state of a play.
 #[derive(Drop)]
 struct Report<'a> {
     page: Page,
     alloc: Global,
     words: Vec<String>,
     reason: Option<&'a str>,
-    // What was said and not looked at.
+    // What was said and not compared yet.
     said: Vec<u8>,
 }
 
@@ -110,7 +111,7 @@ impl<'a> Report<'a> {
         }
     }
 
-    // Whether the next line is this one. It is taken away.
+    // Returns whether the next line is this one. It is removed.
     fn says(&mut self, line: &str) -> bool {
         let count = line.len();
         if !self.said.starts_with(line.as_bytes()) || self.said.get(count) != Some(&b'\n') {
@@ -120,7 +121,7 @@ impl<'a> Report<'a> {
         true
     }
 
-    // One line of the play; whether it is right.
+    // Plays one line, and returns whether it is right.
     fn plays(&mut self, rt: &impl Abort, call: &str, text: &'a str) -> bool {
         match call {
             "words" => {
@@ -143,7 +144,7 @@ impl<'a> Report<'a> {
     }
 }
 
-/// The number of the first line that is wrong, from 1 on; None where all are right.
+/// The number of the first line that is wrong, from 1 on; `None` where all are right.
 pub fn wrong_line(rt: &impl Abort, alloc: Global, play: &str) -> Option<u32> {
     let mut report = Report {
         page: Page::new(alloc, false),

@@ -1,4 +1,4 @@
--- What holds of each in a list, by place.
+-- What holds for each element of a list, by place.
 use Rattle.std.proofs.Common.{List, [], ◌∷◌, ℕ, suc, zero, ◌<◌, length, slice_index_or, arith}
 use Rattle.aio_word.specs.Views.{Each}
 

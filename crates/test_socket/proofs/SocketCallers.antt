@@ -1,4 +1,4 @@
--- What a call leaves of a caller.
+-- The state of a caller after a call.
 use Rattle.std.proofs.Common.{◌≡◌, ◌≢◌, refl, ap, sym, ◌∙◌, subst, List, [], ◌∷◌, ◌++◌, ℕ, suc, length, inl, inr}
 use Rattle.std.proofs.lemmas.List.FromFn.{length-map-range_with_len}
 use Rattle.std.specs.Prelude.{map}
@@ -28,7 +28,7 @@ pub begins : (s : SocketName) (p q : PassView) (ops more : List OpName) (op : Op
 begins s p q ops more op k new is c =
     record { own = still_of s p q k.same c.own; open_ = subst (AreOpenFor q) (sym is) (all_more p q ops op k.open_ new c.open_) }
 
--- the last one is open
+-- the last operation is open
 pub last : (s : SocketName) (p : PassView) (ops less : List OpName) (op : OpName) → ops ≡ less ++ op ∷ [] → Calls s p ops → IsOpenFor p op
 last s p ops less op is c = last_open p less op (subst (AreOpenFor p) is c.open_)
 
@@ -36,7 +36,7 @@ pub collects : (s : SocketName) (p q : PassView) (ops less : List OpName) (op : 
 collects s p q ops less op is same k c =
     record { own = still_of s p q same c.own; open_ = others_keep p q less op k (subst (AreOpenFor p) is c.open_) }
 
--- one that had not ended is put back
+-- an operation that had not ended is put back
 pub puts_back : (s : SocketName) (p q : PassView) (ops less more : List OpName) (op o : OpName) → ops ≡ less ++ op ∷ [] → more ≡ less ++ o ∷ [] → o ≡ op → IsSamePass p q → KeepsOpen p q → Calls s p ops → Calls s q more
 puts_back s p q ops less more op o is new same_op same k c =
     subst (Calls s q) (is ∙ ap (λ (x : OpName). less ++ x ∷ []) (sym same_op) ∙ sym new) (ticks s p q ops same k c)
@@ -80,7 +80,7 @@ pub list_whole : (s : SocketName) (l : ListView) (z : Setting) → l ≡ new_lis
 list_whole s l z is =
     subst (λ (x : ListView). length x.items ≡ x.callers) (sym is) (length-map-range_with_len (new_pass s z) 1 z.callers)
 
--- so has one to which the pass that was taken is given back, whatever it has seen since
+-- so has a list to which the pass that was taken is given back, whatever it has seen since
 pub whole_again : (l m n : ListView) (p q : PassView) → length l.items ≡ l.callers → l.items ≡ m.items ++ p ∷ [] → m.callers ≡ l.callers → n.items ≡ m.items ++ q ∷ [] → n.callers ≡ m.callers → length n.items ≡ n.callers
 whole_again l m n p q all taken a given b =
     ap length given ∙ one_more m.items q ∙ sym (ap length taken ∙ one_more m.items p) ∙ all ∙ sym a ∙ sym b

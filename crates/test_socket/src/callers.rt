@@ -1,4 +1,4 @@
-//! The calls of a socket as a test makes them.
+//! The calls on a socket as a test makes them.
 ghost use Rattle.std.specs.Prelude.{◌≡◌, ◌++◌, ◌∷◌, [], IfErr, IfOk};
 ghost use Rattle.aio_word.specs.Views.{Each};
 ghost use Rattle.sp_proto.specs.Kinds.{Kind, Starts};
@@ -22,11 +22,11 @@ use std::sync::Wait;
 /// A caller of a socket.
 pub struct Caller<P: Proto, W: Wire> {
     pub pass: Pass<P, W>,
-    /// What it has begun and did not collect, in the order of their begins.
+    /// The operations that it began and did not collect, in order.
     pub ops: Vec<Op>,
 }
 
-/// A socket with all its passes, or the number of the error for which there is none.
+/// A socket with all its passes, or the number of the error.
 pub fn opened<P: Proto, W: Wire>(
     alloc: Global,
     proto: P,
@@ -62,7 +62,7 @@ pub fn next<P: Proto, W: Wire>(
     }
 }
 
-// One operation more.
+// Keeps one more operation.
 fn keep(rt: &impl Abort, ops: &mut Vec<Op>, op: Op)
     ensures { ops.new.items ≡ ops.old.items ++ op ∷ [] }
 {
@@ -114,7 +114,7 @@ impl<P: Proto, W: Wire> Caller<P, W> {
         }
     }
 
-    /// The wire becomes a pipe over the link with place 0.
+    /// Attaches the wire as a pipe over the link with place 0.
     pub fn attach<R: Wait>(
         &mut self,
         rt: &R,
@@ -129,7 +129,7 @@ impl<P: Proto, W: Wire> Caller<P, W> {
         socket.attach(rt, &mut self.pass, w, 0)
     }
 
-    /// Receives what is kept.
+    /// Receives a queued message.
     pub fn try_recv<R: Wait>(&mut self, rt: &R, socket: &Socket<P, W>) -> Result<Message, NowError>
         requires { Calls socket.now self.old.pass self.old.ops.items }
         ensures { Calls socket.now self.new.pass self.new.ops.items }
@@ -158,7 +158,7 @@ impl<P: Proto, W: Wire> Caller<P, W> {
         socket.close_ctx(rt, &mut self.pass, c)
     }
 
-    /// Puts a topic on for the socket's own context.
+    /// Subscribes the socket's own context to a topic.
     pub fn subscribe<R: Wait>(
         &mut self,
         rt: &R,
@@ -171,7 +171,7 @@ impl<P: Proto, W: Wire> Caller<P, W> {
         socket.subscribe(rt, &mut self.pass, Ctx(0), topic)
     }
 
-    /// Takes a topic off for the socket's own context.
+    /// Unsubscribes the socket's own context from a topic.
     pub fn unsubscribe<R: Wait>(
         &mut self,
         rt: &R,
@@ -184,7 +184,7 @@ impl<P: Proto, W: Wire> Caller<P, W> {
         socket.unsubscribe(rt, &mut self.pass, Ctx(0), topic)
     }
 
-    /// The link with place 1 was met, and is given back.
+    /// Meets the link with place 1, and gives it back.
     pub fn misses<R: Wait>(&mut self, rt: &R, socket: &Socket<P, W>, miss: Miss)
         requires { Calls socket.now self.old.pass self.old.ops.items }
         ensures { Calls socket.now self.new.pass self.new.ops.items }
@@ -209,7 +209,7 @@ impl<P: Proto, W: Wire> Caller<P, W> {
         socket.take_ended(rt, &mut self.pass)
     }
 
-    /// The moment comes.
+    /// Ticks at `now`.
     pub fn tick<R: Wait>(&mut self, rt: &R, socket: &Socket<P, W>, now: Tick) -> Ticked
         requires { Calls socket.now self.old.pass self.old.ops.items }
         ensures { Calls socket.now self.new.pass self.new.ops.items }
@@ -225,7 +225,7 @@ impl<P: Proto, W: Wire> Caller<P, W> {
         socket.cancel(&mut self.pass, op)
     }
 
-    /// Looks how the operation stands.
+    /// The state of the operation.
     pub fn poll(&mut self, socket: &Socket<P, W>, op: OpName) -> Polled
         requires { Calls socket.now self.old.pass self.old.ops.items }
         ensures { Calls socket.now self.new.pass self.new.ops.items }
@@ -233,7 +233,7 @@ impl<P: Proto, W: Wire> Caller<P, W> {
         socket.poll(&mut self.pass, op)
     }
 
-    /// Collects the operation that was begun last of those that are kept. None where it has not ended.
+    /// Collects the kept operation that began last. `None` where it has not ended.
     pub fn collect<R: Wait + Abort>(&mut self, rt: &R, socket: &Socket<P, W>) -> Option<Outcome>
         requires { Calls socket.now self.old.pass self.old.ops.items }
         ensures { Calls socket.now self.new.pass self.new.ops.items }
@@ -250,7 +250,7 @@ impl<P: Proto, W: Wire> Caller<P, W> {
         }
     }
 
-    /// Waits for the operation that was begun last of those that are kept.
+    /// Waits for the kept operation that began last.
     pub fn wait<R: Wait + Abort>(&mut self, rt: &R, socket: &Socket<P, W>) -> Outcome
         requires { Calls socket.now self.old.pass self.old.ops.items }
         ensures { Calls socket.now self.new.pass self.new.ops.items }
@@ -270,7 +270,7 @@ impl<P: Proto, W: Wire> Caller<P, W> {
     }
 }
 
-// Collects all that is kept, once it has ended.
+// Collects all kept operations, once they have ended.
 fn collect_all<P: Proto, W: Wire, R: Wait + Abort>(
     rt: &R,
     socket: &Socket<P, W>,
@@ -289,7 +289,7 @@ fn collect_all<P: Proto, W: Wire, R: Wait + Abort>(
     unreachable!()
 }
 
-/// Closes the socket, collects all that the caller keeps, and gives its pass back. Returns the totals.
+/// Closes the socket, collects all that the caller has open, and gives its pass back. Returns the totals.
 pub fn give_back<P: Proto, W: Wire, R: Wait + Abort>(
     rt: &R,
     socket: &Socket<P, W>,
@@ -310,7 +310,7 @@ pub fn give_back<P: Proto, W: Wire, R: Wait + Abort>(
     totals
 }
 
-/// Ends the socket; returns how many wires are left.
+/// Ends the socket, and returns how many wires are left.
 pub fn finish<P: Proto, W: Wire + Drop, R: Wait + Abort>(
     rt: &R,
     socket: Socket<P, W>,

@@ -1,4 +1,4 @@
-//! Replies that come in the other order than the requests went out.
+//! Replies that come in the opposite order of the requests.
 use crate::checks::{holds, same};
 use crate::machines::wire;
 use crate::two::ask_two;
@@ -6,7 +6,7 @@ use sp_msg::Message;
 use sp_socket::Outcome;
 use std::process::Abort;
 
-// The receive got this body, and no header.
+// Aborts unless the receive got this body and no header.
 fn is_received(rt: &impl Abort, outcome: Outcome, body: &[u8]) {
     match outcome {
         Outcome::Received(m) => {
@@ -17,7 +17,7 @@ fn is_received(rt: &impl Abort, outcome: Outcome, body: &[u8]) {
     }
 }
 
-// The message has this header and this body.
+// Aborts unless the message has this header and this body.
 fn is_message(rt: &impl Abort, m: &Message, header: &[u8], body: &[u8]) {
     same(rt, m.header(), header);
     same(rt, m.body(), body);
@@ -26,7 +26,7 @@ fn is_message(rt: &impl Abort, m: &Message, header: &[u8], body: &[u8]) {
 #[test]
 fn replies_reach_the_contexts_that_asked(rt: HostRuntime) {
     let alloc = rt.alloc();
-    // It takes two requests, and gives the reply to the second one first.
+    // The wire takes two requests, and gives the reply to the second one first.
     let wire = wire(&rt, alloc, 2, "80000001'B 80000000'A");
     let ((first, second), mut wires) = ask_two(&rt, alloc, wire);
     is_received(&rt, first, b"A");

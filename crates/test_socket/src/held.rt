@@ -1,5 +1,5 @@
-//! A turn that is held up by its wire: others wait for no more than that turn, and a cancel doesn't wait at all. No
-//! socket shuts a wire.
+//! A turn that its wire delays: others wait for only that turn, and a cancel doesn't wait at all. No socket shuts a
+//! wire.
 ghost use Rattle.std.specs.Prelude.{◌≡◌};
 ghost use Rattle.core_state.specs.Wires.{IsUnused};
 
@@ -15,17 +15,17 @@ use std::process::Abort;
 use std::sync::{Arc, Wait};
 use std::thread::Threads;
 
-// A wire that holds the turn up in which it is pulled first.
+// A wire that delays the turn in which it is pulled first.
 #[derive(Drop)]
 struct HeldWire {
     wire: MemWire,
     marks: Arc<ThreadMarks>,
-    // Whether it has held a turn up.
+    // Whether it has delayed a turn.
     done: bool,
 }
 
 impl HeldWire {
-    // Once: stops until the cancel has returned.
+    // Waits once until the cancel has returned.
     fn hold(&mut self)
         ensures { self.new.wire ≡ self.old.wire }
     {
@@ -67,7 +67,7 @@ impl Wire for HeldWire {
     }
 }
 
-// A wire that gives this; whether it holds nothing up.
+// A wire that gives `gives`, and delays no turn where `done` is true.
 fn held(
     rt: &impl Abort,
     alloc: Global,
@@ -84,7 +84,7 @@ fn held(
     }
 }
 
-// A pull of such wires plays.
+// Plays the text on a pull over such wires.
 fn plays<R: Wait + Abort + Threads + Sync>(
     rt: &R,
     alloc: Global,
@@ -97,7 +97,7 @@ fn plays<R: Wait + Abort + Threads + Sync>(
     is_right(rt, wrong)
 }
 
-// The wire holds the first turn up. Within it a receive is cancelled, and a caller comes that lets a moment come.
+// The wire delays the first turn. During it a receive is cancelled, and another caller comes to tick.
 #[test]
 fn a_cancel_returns_within_a_held_turn(rt: HostRuntime) {
     let play = "
@@ -126,7 +126,8 @@ fn a_cancel_returns_within_a_held_turn(rt: HostRuntime) {
     plays(&rt, alloc, "4 4", wires, &marks, play);
 }
 
-// A wire that ends is taken as it is, and one that is up at the close comes back with the socket: neither is shut.
+// A wire that ends is taken as it is, and one that is up at the close comes back at the end of the socket: neither is
+// shut.
 #[test]
 fn a_socket_shuts_no_wire(rt: HostRuntime) {
     let play = "

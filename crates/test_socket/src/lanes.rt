@@ -13,7 +13,7 @@ use std::process::Abort;
 use std::sync::Wait;
 use std::thread::Threads;
 
-// A lane of so many items; it aborts when out of memory.
+// A lane of `cap` items. Aborts when out of memory.
 fn lane_of(rt: &impl Abort, alloc: Global, cap: u32) -> (LaneIn, LaneOut)
     requires least { 1 ≤ cap }
     requires most { cap ≤ 8192 }
@@ -42,19 +42,19 @@ fn put_end<R: Wait + Abort>(rt: &R, input: &mut LaneIn) {
     }
 }
 
-// A wire over lanes. If it has the other end of the lane in which it puts, it makes room by itself once it was full
+// A wire over lanes. If it has the other end of the lane that it puts into, it makes room by itself once it was full
 // three times.
 #[derive(Drop)]
 struct LateWire {
     wire: LaneWire,
-    // The other end of the lane in which it puts, where the wire has it.
+    // The other end of the lane that it puts into, where the wire has it.
     other: Option<LaneOut>,
-    // How often it was full.
+    // The number of times that it was full.
     fulls: u32,
 }
 
 impl LateWire {
-    // It was full. The third time the other end takes a message.
+    // Notes that it was full. The third time, takes a message at the other end.
     fn was_full<R: Wait>(&mut self, rt: &R)
         ensures { self.new.wire ≡ self.old.wire }
     {
@@ -99,7 +99,7 @@ impl Wire for LateWire {
     }
 }
 
-// One wire, which puts into the one lane and takes from the other.
+// A wire that puts into one lane and takes from the other.
 fn over(
     rt: &impl Abort,
     alloc: Global,
@@ -119,7 +119,7 @@ fn over(
     wires
 }
 
-// A pull over such a wire plays.
+// Plays the text on a pull over such a wire.
 fn pull_plays<R: Wait + Abort + Threads + Sync>(
     rt: &R,
     alloc: Global,
@@ -131,7 +131,7 @@ fn pull_plays<R: Wait + Abort + Threads + Sync>(
     is_right(rt, wrong)
 }
 
-// A push over such a wire plays, of which this is the other end.
+// Plays the text on a push over such a wire, with the other end of its lane.
 fn push_plays<R: Wait + Abort + Threads + Sync>(
     rt: &R,
     alloc: Global,
@@ -144,7 +144,7 @@ fn push_plays<R: Wait + Abort + Threads + Sync>(
     is_right(rt, wrong)
 }
 
-// Frames come in the order in which they were put, and the pipe ends behind them.
+// Frames come in the order in which they were put, and the pipe ends after them.
 #[test]
 fn a_lane_gives_its_frames_in_order(rt: HostRuntime) {
     let play = "
@@ -171,7 +171,7 @@ fn a_lane_gives_its_frames_in_order(rt: HostRuntime) {
     pull_plays(&rt, alloc, wires, &unmarked(&rt, alloc), play);
 }
 
-// A send that waits goes out as soon as the lane has room, with no other caller there.
+// A send that waits goes out as soon as the lane has room, with no other caller.
 #[test]
 fn a_waiting_send_finds_room(rt: HostRuntime) {
     let play = "
@@ -193,8 +193,8 @@ fn a_waiting_send_finds_room(rt: HostRuntime) {
     push_plays(&rt, alloc, wires, Some(output), &unmarked(&rt, alloc), play);
 }
 
-// A send whose room comes while its caller waits goes out, with no other caller there: a wait takes turn after turn.
-// The wire is full as the send begins and in the first two turns of the wait.
+// A send whose room comes while its caller waits goes out, with no other caller: a wait takes turn after turn. The wire
+// is full when the send begins and in the first two turns of the wait.
 #[test]
 fn a_send_waits_for_room(rt: HostRuntime) {
     let play = "

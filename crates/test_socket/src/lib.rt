@@ -1,6 +1,5 @@
-//! Tests of sockets over machines and wires in memory, with one caller and with several. Most are plays: texts, whose
-//! lines are the calls of callers with what they return. A caller keeps its pass and what it has begun and did not
-//! collect.
+//! Tests of sockets over machines and wires in memory, with one caller and with several. Most are plays: texts whose
+//! lines are the calls of callers with what they return. A caller keeps its pass and its open operations.
 #![tactic(auto)]
 
 #[cfg(test)]

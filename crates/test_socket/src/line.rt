@@ -2,19 +2,19 @@
 use sp_base::OpName;
 use std::alloc::Global;
 
-/// A call that is read word by word. Words stand between single spaces. A word that is missing, or isn't what is asked
-/// for, makes the call wrong, and 0 or nothing stands in its place.
+/// A call that is read word by word. Words have single spaces between them. A word that is missing, or isn't what is
+/// asked for, makes the call wrong, and reads as 0 or nothing.
 #[derive(Clone, Copy)]
 pub struct CallLine<'a> {
     alloc: Global,
-    // What was not read; none where all was.
+    // The part that was not read, or `None` where all was read.
     rest: Option<&'a str>,
-    // What `#` stands for.
+    // The number that `#` stands for.
     round: u32,
     is_wrong: bool,
 }
 
-/// The number that the word is, of digits alone.
+/// The number of a word that has only digits.
 pub fn number_of(word: &str) -> Option<u64> {
     if word.starts_with('+') {
         return None;
@@ -22,7 +22,7 @@ pub fn number_of(word: &str) -> Option<u64> {
     word.parse::<u64>().ok()
 }
 
-/// The frame's bytes: an apostrophe and text, behind hexadecimal digits of the bytes before it.
+/// The frame's bytes: hexadecimal digits for the first bytes, an apostrophe, and the rest as text.
 pub fn bytes_of(alloc: Global, word: &str) -> Option<Vec<u8>> {
     let (digits, text) = word.split_once('\'')?;
     let mut bytes = Vec::new(alloc);
@@ -39,7 +39,7 @@ pub fn bytes_of(alloc: Global, word: &str) -> Option<Vec<u8>> {
 }
 
 impl<'a> CallLine<'a> {
-    /// A call of which nothing was read, in the round with this number.
+    /// A call from its start, in the round with this number.
     pub fn new(alloc: Global, text: &'a str, round: u32) -> CallLine<'a> {
         CallLine {
             alloc,
@@ -67,12 +67,12 @@ impl<'a> CallLine<'a> {
         }
     }
 
-    /// The next word is this one.
+    /// Returns whether the next word is `word`.
     pub fn says(&mut self, word: &str) -> bool {
         self.word() == word
     }
 
-    // What the word stands for, or 0.
+    // The number of the word, or 0.
     fn value(&mut self, word: &str) -> u64 {
         if word == "#" {
             return self.round as u64;
@@ -92,7 +92,7 @@ impl<'a> CallLine<'a> {
         self.value(word)
     }
 
-    // The same, of 32 bits.
+    // The number of the word, if it has 32 bits, or 0.
     fn small(&mut self, word: &str) -> u32 {
         match u32::try_from(self.value(word)) {
             Ok(value) => value,
@@ -109,7 +109,7 @@ impl<'a> CallLine<'a> {
         self.small(word)
     }
 
-    /// The next word as the name of an operation: its slot, and how many operations that slot has had with it.
+    /// The next word as the name of an operation: its slot, and its generation.
     pub fn name(&mut self) -> OpName {
         let (slot, generation) = match self.word().split_once('.') {
             Some(parts) => parts,
@@ -121,7 +121,7 @@ impl<'a> CallLine<'a> {
         }
     }
 
-    /// The next word is the name of this operation, or `any`.
+    /// Returns whether the next word is the name of this operation, or `any`.
     pub fn names(&mut self, op: OpName) -> bool {
         let mut other = *self;
         if other.says("any") {
@@ -131,7 +131,7 @@ impl<'a> CallLine<'a> {
         self.name() == op
     }
 
-    /// The bytes that the next word stands for.
+    /// The bytes of the next word.
     pub fn bytes(&mut self) -> Vec<u8> {
         match bytes_of(self.alloc, self.word()) {
             Some(bytes) => bytes,
@@ -142,7 +142,7 @@ impl<'a> CallLine<'a> {
         }
     }
 
-    /// The next word stands for these bytes, or is `any`.
+    /// Returns whether the next word has these bytes, or is `any`.
     pub fn is_body(&mut self, body: &[u8]) -> bool {
         let mut other = *self;
         if other.says("any") {
@@ -152,7 +152,7 @@ impl<'a> CallLine<'a> {
         body == self.bytes().as_slice()
     }
 
-    /// What was not read.
+    /// The part that was not read.
     pub fn rest(&self) -> &'a str {
         match self.rest {
             Some(text) => text,
@@ -160,7 +160,7 @@ impl<'a> CallLine<'a> {
         }
     }
 
-    /// Every word was read, and each was what was asked for.
+    /// Returns whether every word was read, and each was what was asked for.
     pub fn is_read(&self) -> bool {
         !self.is_wrong && self.rest.is_none()
     }

@@ -1,6 +1,6 @@
-//! Machines and wires of plays by texts. What wires give stands between semicolons, as `'x; silent`; an empty text is
-//! no wire. A word is the body of a frame, `bytes*3`, which is the frames 0, 1 and 2, of one byte each, `pause`, where
-//! nothing is there once, `end`, which is the end, or `silent`, which is nothing.
+//! Machines and wires of plays, made from texts. What wires give is separated by semicolons, as in `'x; silent`; an
+//! empty text is no wire. A word is the body of a frame; `bytes*3`, for the frames 0, 1 and 2 of one byte each;
+//! `pause`, for nothing once; `end`, for the end; or `silent`, for no step.
 ghost use Rattle.std.specs.Prelude.{◌≡◌};
 ghost use Rattle.sp_proto.specs.Kinds.{Kind, Starts};
 ghost use Rattle.proto_pipeline.specs.Pulls.{Ties as PullTies};
@@ -23,7 +23,7 @@ use std::process::Abort;
 use std::sync::Wait;
 use std::thread::Threads;
 
-/// The machine of a pull; it aborts when out of memory.
+/// The machine of a pull. Aborts when out of memory.
 pub fn pull(rt: &impl Abort, alloc: Global) -> Pull
     ensures { (k : Kind) × Starts PullTies result k }
 {
@@ -33,7 +33,7 @@ pub fn pull(rt: &impl Abort, alloc: Global) -> Pull
     }
 }
 
-/// The machine of a push; it aborts when out of memory.
+/// The machine of a push. Aborts when out of memory.
 pub fn push(rt: &impl Abort, alloc: Global) -> Push
     ensures { (k : Kind) × Starts PushTies result k }
 {
@@ -43,7 +43,7 @@ pub fn push(rt: &impl Abort, alloc: Global) -> Push
     }
 }
 
-// The machine of a sub; it aborts when out of memory.
+// The machine of a sub. Aborts when out of memory.
 fn sub(rt: &impl Abort, alloc: Global) -> Subscribe
     ensures { (k : Kind) × Starts SubTies result k }
 {
@@ -55,13 +55,13 @@ fn sub(rt: &impl Abort, alloc: Global) -> Subscribe
 
 // ---- Wires
 
-// Puts the frame last, if there is memory for it.
+// Appends the frame, if there is memory for it.
 fn add_frame(alloc: Global, script: &mut Vec<WireStep>, body: &[u8]) -> Option<()> {
     let bytes = Bytes::from_slice(alloc, body).ok()?;
     script.push(WireStep::Bytes(bytes)).ok()
 }
 
-// So many frames of one byte each, 0 and so on.
+// Appends `frames` frames of one byte each, 0 and so on.
 fn add_count(alloc: Global, script: &mut Vec<WireStep>, frames: u8) -> Option<()> {
     for n in 0..frames {
         add_frame(alloc, script, [n].as_slice())?;
@@ -69,7 +69,7 @@ fn add_count(alloc: Global, script: &mut Vec<WireStep>, frames: u8) -> Option<()
     Some(())
 }
 
-// What the word says is put last; none where it says nothing, or there is no memory for it.
+// Appends what the word says; `None` where it has no meaning, or there is no memory for it.
 fn add_word(alloc: Global, script: &mut Vec<WireStep>, word: &str) -> Option<()> {
     if let Some(frames) = word.strip_prefix("bytes*") {
         return add_count(alloc, script, frames.parse::<u8>().ok()?);
@@ -91,7 +91,7 @@ fn script_of(alloc: Global, gives: &str) -> Option<Vec<WireStep>> {
     Some(script)
 }
 
-/// A wire that takes so many messages, and gives what these words say; it aborts where a word says nothing, or there is
+/// A wire that takes `most` messages, and gives what these words say. Aborts where a word has no meaning, or there is
 /// no memory for it.
 pub fn wire(rt: &impl Abort, alloc: Global, most: u64, gives: &str) -> MemWire
     ensures { IsUnused result.wire }
@@ -149,8 +149,8 @@ fn sub_plays<R: Wait + Abort + Threads + Sync>(
     wrong_line(rt, alloc, sub(rt, alloc), size, wires, None, &marks, play)
 }
 
-/// The number of the line that is wrong, from 1 on, or 0 where the whole is, for a socket of this role, of so many
-/// slots and callers, as `pull 4 2`, over wires that give this.
+/// The number (from 1 on) of the line that is wrong, or 0 where the whole is. `socket` is its role, slots and callers,
+/// as in `pull 4 2`, and `gives` is what its wires give.
 pub fn line_wrong_for<R: Wait + Abort + Threads + Sync>(
     rt: &R,
     alloc: Global,
@@ -166,7 +166,7 @@ pub fn line_wrong_for<R: Wait + Abort + Threads + Sync>(
     }
 }
 
-/// Such a socket plays the text.
+/// Plays the text on such a socket, and aborts where it is wrong.
 pub fn plays<R: Wait + Abort + Threads + Sync>(
     rt: &R,
     alloc: Global,

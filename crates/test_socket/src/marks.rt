@@ -1,11 +1,11 @@
-//! What threads of a test tell each other, each looking a bounded number of times.
+//! Signals between threads of a test, each polled a bounded number of times.
 use std::alloc::Global;
 use std::process::Abort;
 use std::sync::Arc;
 use std::sync::atomic::{AtomicU64, Ordering};
 use std::thread;
 
-// How often one who waits for a mark looks at the most.
+// The greatest number of polls of a mark.
 const LOOKS: u32 = 1_000_000;
 
 /// A number that threads share, 0 until it is set.
@@ -27,12 +27,12 @@ impl ThreadMark {
         self.0.fetch_add(more, Ordering::SeqCst);
     }
 
-    /// What it is now.
+    /// The value now.
     pub fn now(&self) -> u64 {
         self.0.load(Ordering::SeqCst)
     }
 
-    /// Looks for it to be set, yielding between two looks: what it was set to, 0 where that wasn't seen.
+    /// Polls until it is set, yielding between two polls. Returns the value, or 0 where it wasn't seen.
     pub fn seen(&self) -> u64 {
         for _ in 0..LOOKS {
             let value = self.now();
@@ -48,9 +48,9 @@ impl ThreadMark {
 /// The marks of a test.
 #[derive(Drop)]
 pub struct ThreadMarks {
-    /// 1 while a wire holds its turn up, and once it has; 2 where it gave up.
+    /// 1 once a wire delays its turn; 2 where it gave up.
     pub held: ThreadMark,
-    /// 1 once another caller was about to ask for a turn while one was held up.
+    /// 1 once another caller was about to ask for a turn while one was delayed.
     pub entered: ThreadMark,
     /// 1 once the cancel has returned.
     pub returned: ThreadMark,
@@ -58,15 +58,15 @@ pub struct ThreadMarks {
     pub begun: ThreadMark,
     /// 1 once a wire was shut.
     pub shut: ThreadMark,
-    /// How many messages were received, of those that are counted.
+    /// The number of counted messages that were received.
     pub received: ThreadMark,
-    /// How many operations callers have ended, of those that are counted.
+    /// The number of counted operations that callers ended.
     pub ended: ThreadMark,
     /// The number of a line that a thread found wrong.
     pub wrong: ThreadMark,
 }
 
-/// No mark is set.
+/// Marks none of which is set.
 pub fn unmarked(rt: &impl Abort, alloc: Global) -> Arc<ThreadMarks> {
     match Arc::new(
         alloc,
@@ -86,7 +86,7 @@ pub fn unmarked(rt: &impl Abort, alloc: Global) -> Arc<ThreadMarks> {
     }
 }
 
-/// One owner of the marks more.
+/// One more owner of the marks.
 pub fn shared(rt: &impl Abort, marks: &Arc<ThreadMarks>) -> Arc<ThreadMarks> {
     match marks.clone() {
         Ok(marks) => marks,
@@ -95,7 +95,7 @@ pub fn shared(rt: &impl Abort, marks: &Arc<ThreadMarks>) -> Arc<ThreadMarks> {
 }
 
 impl ThreadMarks {
-    /// Holds up until the cancel has returned.
+    /// Waits until the cancel has returned.
     pub fn hold(&self) {
         self.held.set(1);
         if self.returned.seen() == 0 {

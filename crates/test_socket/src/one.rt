@@ -1,4 +1,4 @@
-//! What a user of the library writes to receive one message.
+//! The code that a user of the library writes to receive one message.
 ghost use Rattle.std.specs.Prelude.{◌≡◌};
 ghost use Rattle.sp_proto.specs.Kinds.{Kind, Starts};
 ghost use Rattle.core_state.specs.Wires.{IsUnused};
@@ -12,7 +12,7 @@ use std::alloc::Global;
 use std::process::Abort;
 use std::sync::Wait;
 
-/// Receives one message from the wire, on a pull socket with one caller. Returns what the receive came to, and the
+/// Receives one message from the wire, on a pull socket with one caller. Returns the result of the receive, and the
 /// wires that are left.
 pub fn receive_one<W: Wire + Drop, R: Wait + Abort>(
     rt: &R,
@@ -27,7 +27,7 @@ pub fn receive_one<W: Wire + Drop, R: Wait + Abort>(
     receive_over(rt, alloc, machine, wire)
 }
 
-// The same on a socket of any machine that receives.
+// Does the same on a socket of any machine that receives.
 fn receive_over<P: Proto, W: Wire + Drop, R: Wait + Abort>(
     rt: &R,
     alloc: Global,

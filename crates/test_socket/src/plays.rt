@@ -2,55 +2,55 @@
 //!
 //! | line | what it says |
 //! |---|---|
-//! | `takes 2` | the last pass of the list has this number: its caller comes |
+//! | `takes 2` | the last pass of the list has this number, and its caller is added |
 //! | `2 CALL` | this caller makes the call |
 //! | `2 for 1..16: CALL \| CALL` | it makes these calls for each number, upwards; `#` is the number |
-//! | `together`, and then `+ 2 CALL`, `+ 1 for 1..16: CALL` | each makes its calls, in a thread of its own |
-//! | `all_out`, `all_in` | the list has not all passes, and has them all |
-//! | `lane BODY` | the other end of the lane has this message |
+//! | `together`, and then `+ 2 CALL`, `+ 1 for 1..16: CALL` | each makes its calls in a thread of its own |
+//! | `all_out`, `all_in` | the list lacks some pass, and has all passes |
+//! | `lane BODY` | the other end of the lane gets this message |
 //! | `all_give_back TOTALS` | `gives_back TOTALS` of each caller that is there |
-//! | `left 1` | all passes are back, and so many wires will be left: the last line |
+//! | `left 1` | all passes are back, and 1 wire will be left: the last line |
 //! | `no_socket 3` | no socket opens, for this error: the only line |
 //! | `! LINE` | the line is wrong |
 //!
 //! | call | what it says |
 //! |---|---|
-//! | `attaches 1`, `attaches error 7` | the first wire that is left becomes this pipe, and becomes none |
+//! | `attaches 1`, `attaches error 7` | the first wire that is left becomes this pipe, or no pipe |
 //! | `gives_back TOTALS` | it closes the socket, collects all that it began, closes again, and gives its pass back |
-//! | `receives CONTEXT NAME`, `receives CONTEXT error 4` | a receive begins, and none does |
+//! | `receives CONTEXT NAME`, `receives CONTEXT error 4` | a receive begins, or none does |
 //! | `receives_by CONTEXT TICK NAME` | the same with a deadline |
-//! | `sends BODY NAME`, `sends BODY error 7` | a send begins, and none does: then the message comes back |
-//! | `collects OUTCOME`, `collects_not` | of what it began and did not collect the last one ended so, and is pending |
+//! | `sends BODY NAME`, `sends BODY error 7` | a send begins, or none does and the message comes back |
+//! | `collects OUTCOME`, `collects_not` | its last open operation ended with this, or is pending |
 //! | `collects_counted` | it has ended; a message that it has received is counted |
-//! | `waits OUTCOME` | it waits for that operation, which ends so |
-//! | `now received BODY`, `now error 8` | it receives this at once, and nothing |
-//! | `now_next` | it receives nothing, or the one byte that is how many were counted before; that is counted |
-//! | `cancels NAME RACED`, `polls NAME POLLED` | it cancels the operation, and looks at it |
+//! | `waits OUTCOME` | it waits for that operation, which ends with this |
+//! | `now received BODY`, `now error 8` | it receives this at once, or nothing |
+//! | `now_next` | it receives nothing, or one byte, the count of those before; that is counted |
+//! | `cancels NAME RACED`, `polls NAME POLLED` | it cancels the operation, and polls it |
 //! | `tries NAME` | it cancels the operation; where that ends it, that is counted |
-//! | `guesses NAME` | the same of each generation of the slot up to this one |
-//! | `ticks TICK WON LOST` | the moment comes: so many due operations end, and had ended |
-//! | `ticks_counted TICK` | the moment comes; the operations that it ends are counted |
+//! | `guesses NAME` | the same for each generation of the slot up to this one |
+//! | `ticks TICK WON LOST` | it ticks: WON due operations end, and LOST had ended |
+//! | `ticks_counted TICK` | it ticks; the operations that it ends are counted |
 //! | `serve`, `serves yes` | the pipes are served; the same, and whether something moved |
-//! | `down PIPE WHY` | the pipe that went down first of those that were not taken is this one |
+//! | `down PIPE WHY` | the first pipe that went down and was not taken is this one |
 //! | `misses MISS` | the link with place 1 was met, and is given back |
 //! | `closes TOTALS` | it closes the socket |
-//! | `opens CONTEXT`, `opens error 9` | this context is opened, and none is |
-//! | `shuts CONTEXT ok`, `shuts CONTEXT error 12` | the context is shut, and isn't |
-//! | `subscribes TOPIC ok`, `unsubscribes TOPIC error 12` | the topic is put on and taken off, or isn't |
+//! | `opens CONTEXT`, `opens error 9` | this context is opened, or none is |
+//! | `shuts CONTEXT ok`, `shuts CONTEXT error 12` | the context is shut, or isn't |
+//! | `subscribes TOPIC ok`, `unsubscribes TOPIC error 12` | it subscribes and unsubscribes, or doesn't |
 //! | `marks held`, `sees held` | the mark is set; it is seen to be set, within a bounded time |
-//! | `has_received 200`, `in_all 64` | so many messages were counted; so many with operations that were ended |
+//! | `has_received 200`, `in_all 64` | 200 messages were counted; 64 with ended operations |
 //!
-//! `attaches` and `gives_back` stand alone on their line.
+//! `attaches` and `gives_back` are the only call on their line.
 //!
-//! A NAME is an operation's slot and generation, as `0.1`, or `any` where one begins. A BODY and a TOPIC are hexadecimal
-//! digits, an apostrophe, and text, as `80000000'a` or `'x`; a body that comes may be `any`. Errors stand by their
-//! numbers. WHY, CAUSE, PHASE and MISS are words of `words`, as `closed`, `timedout`, `expired` and `late`. OUTCOME is
-//! `received BODY`, `sent`, `gone CAUSE CALLER`, or, of a send, `gone CAUSE CALLER BODY`. RACED and POLLED are `won`,
-//! `pending`, `stale`, or `ended PHASE CALLER`. TOTALS are what was begun, won and gone, and the frames, outs and
-//! fulls; or `counted LEAST MOST`, which is what was counted, with from LEAST to MOST frames. The names of marks are
-//! `held`, `entered`, `returned` and `begun`. Blank lines and those that begin with `//` say nothing.
+//! A NAME is an operation's slot and generation, as `0.1`, or `any` where one begins. A BODY and a TOPIC are
+//! hexadecimal digits, an apostrophe, and text, as `80000000'a` or `'x`; a body that comes may be `any`. Errors are
+//! written as their numbers. WHY, CAUSE, PHASE and MISS are words of `words`, as `closed`, `timedout`, `expired` and
+//! `late`. OUTCOME is `received BODY`, `sent`, `gone CAUSE CALLER`, or, for a send, `gone CAUSE CALLER BODY`. RACED and
+//! POLLED are `won`, `pending`, `stale`, or `ended PHASE CALLER`. TOTALS are the numbers begun, won and gone, and the
+//! frames, outs and fulls; or `counted LEAST MOST`, for what was counted, with LEAST to MOST frames. The names of marks
+//! are `held`, `entered`, `returned` and `begun`. Blank lines and those that begin with `//` are skipped.
 //!
-//! The reader stands for any machine and wire, since calls on types that are written out are dear to prove.
+//! The reader is generic over machine and wire, since calls on written-out types are costly to prove.
 ghost use Rattle.std.specs.Prelude.{◌≡◌, ◌++◌, ◌∷◌, []};
 ghost use Rattle.aio_word.specs.Views.{Each};
 ghost use Rattle.sp_proto.specs.Kinds.{Kind, Starts};
@@ -73,7 +73,8 @@ use std::process::Abort;
 use std::sync::Wait;
 use std::thread::{self, Threads};
 
-// The caller does this job, whose first word is its number, and is right. It does no other one.
+// Has the caller do this job, whose first word is its number, and returns whether it is right. It does no job of
+// another caller.
 fn does_job<P: Proto, W: Wire + Drop, R: Wait + Abort>(
     rt: &R,
     alloc: Global,
@@ -93,7 +94,7 @@ fn does_job<P: Proto, W: Wire + Drop, R: Wait + Abort>(
     does_line(rt, alloc, socket, marks, caller, words.rest())
 }
 
-// The caller does its jobs in the lines that begin with a plus sign, from this line on. The first one that is wrong is
+// Has the caller do its jobs in the lines that begin with a plus sign, from this line on. The first wrong one is
 // marked.
 fn works<P: Proto, W: Wire + Drop, R: Wait + Abort>(
     rt: &R,
@@ -120,7 +121,7 @@ fn works<P: Proto, W: Wire + Drop, R: Wait + Abort>(
     }
 }
 
-// Each of the callers does so, in a thread of its own where one can be made.
+// Has each of the callers do so, in a thread of its own where one can be made.
 fn all_work<P: Proto + Send, W: Wire + Send + Drop, R: Wait + Abort + Threads + Sync>(
     rt: &R,
     alloc: Global,
@@ -145,7 +146,7 @@ fn all_work<P: Proto + Send, W: Wire + Send + Drop, R: Wait + Abort + Threads + 
     );
 }
 
-// The caller gives its pass back. Whether the close returned these totals.
+// Gives the caller's pass back, and returns whether the close returned these totals.
 fn gives_back<P: Proto, W: Wire, R: Wait + Abort>(
     rt: &R,
     socket: &Socket<P, W>,
@@ -163,7 +164,7 @@ fn gives_back<P: Proto, W: Wire, R: Wait + Abort>(
     are_totals(&mut line, marks, returned) && line.is_read()
 }
 
-// Each of the callers gives its pass back. Whether the closes returned these totals.
+// Gives the pass of each caller back, and returns whether the closes returned these totals.
 fn give_all_back<P: Proto, W: Wire, R: Wait + Abort>(
     rt: &R,
     socket: &Socket<P, W>,
@@ -189,7 +190,7 @@ fn give_all_back<P: Proto, W: Wire, R: Wait + Abort>(
     unreachable!()
 }
 
-// One caller more.
+// Adds a caller.
 fn keep<P: Proto, W: Wire>(rt: &impl Abort, callers: &mut Vec<Caller<P, W>>, caller: Caller<P, W>)
     ensures { callers.new.items ≡ callers.old.items ++ caller ∷ [] }
 {
@@ -199,7 +200,7 @@ fn keep<P: Proto, W: Wire>(rt: &impl Abort, callers: &mut Vec<Caller<P, W>>, cal
     }
 }
 
-// The lane has this message.
+// Returns whether the lane has this message.
 fn is_in_lane<R: Wait>(rt: &R, lane: &mut Option<LaneOut>, line: &mut CallLine<'_>) -> bool {
     let Some(lane) = lane else {
         return false;
@@ -210,7 +211,7 @@ fn is_in_lane<R: Wait>(rt: &R, lane: &mut Option<LaneOut>, line: &mut CallLine<'
     }
 }
 
-// The count, if it is so.
+// The count, if `it` is true.
 fn if_so(it: bool, count: usize) -> Option<usize> {
     if it { Some(count) } else { None }
 }
@@ -223,13 +224,13 @@ struct Play<P: Proto, W: Wire> {
     callers: Vec<Caller<P, W>>,
     wires: UnusedWires<W>,
     lane: Option<LaneOut>,
-    // Whether lines that begin with a plus sign are those of threads that have ended.
+    // Whether lines that begin with a plus sign were done by threads that have ended.
     is_together: bool,
-    // How many wires the last line says are left.
+    // The number of wires that the last line says are left.
     left: Option<usize>,
 }
 
-// Contracts see how many callers are there.
+// Contracts see the number of callers.
 impl<P: Proto, W: Wire> Model for Play<P, W> {
     ghost use Rattle.std.specs.Prelude.{ℕ, length};
     ghost use Rattle.aio_word.specs.Views.{Each};
@@ -243,7 +244,7 @@ impl<P: Proto, W: Wire> Model for Play<P, W> {
 }
 
 impl<P: Proto, W: Wire + Drop> Play<P, W> {
-    // The place of the caller with this number; where there is none, a place behind the last one.
+    // The place of the caller with this number; where there is none, a place after the last one.
     fn place(&self, number: u64) -> usize {
         for (at, caller) in self.callers.iter().enumerate() {
             if caller.pass.number() as u64 == number {
@@ -253,7 +254,7 @@ impl<P: Proto, W: Wire + Drop> Play<P, W> {
         self.callers.len()
     }
 
-    // The last pass of the list has this number.
+    // Adds the caller of the list's last pass, and returns whether that has this number.
     fn takes<R: Abort>(&mut self, rt: &R, number: u32) -> bool {
         let caller = next(rt, self.alloc, &self.socket, &mut self.list);
         let is_right = caller.pass.number() == number;
@@ -261,7 +262,7 @@ impl<P: Proto, W: Wire + Drop> Play<P, W> {
         is_right
     }
 
-    // The first wire that is left becomes this pipe, or none.
+    // Attaches the first wire that is left, and returns whether it becomes this pipe, or none.
     fn attaches<R: Wait>(&mut self, rt: &R, at: usize, line: &mut CallLine<'_>) -> bool {
         if at >= self.callers.len() {
             return false;
@@ -275,7 +276,7 @@ impl<P: Proto, W: Wire + Drop> Play<P, W> {
         }
     }
 
-    // The caller at this place gives its pass back.
+    // Gives back the pass of the caller at this place, and returns whether the line is right.
     fn gives_back<R: Wait + Abort>(
         &mut self,
         rt: &R,
@@ -290,7 +291,7 @@ impl<P: Proto, W: Wire + Drop> Play<P, W> {
         gives_back(rt, &self.socket, &mut self.list, marks, caller, totals)
     }
 
-    // The caller at this place does the rest of the line.
+    // Has the caller at this place do the rest of the line, and returns whether it is right.
     fn does<R: Wait + Abort>(
         &mut self,
         rt: &R,
@@ -316,7 +317,7 @@ impl<P: Proto, W: Wire + Drop> Play<P, W> {
         }
     }
 
-    // There is such a caller, whose number is the first word.
+    // Returns whether there is a caller whose number is the first word.
     fn is_of_caller(&self, job: &str) -> bool {
         let mut line = CallLine::new(self.alloc, job, 0);
         match number_of(line.word()) {
@@ -325,19 +326,19 @@ impl<P: Proto, W: Wire + Drop> Play<P, W> {
         }
     }
 
-    // The other end of the lane has this message.
+    // Returns whether the other end of the lane has this message.
     fn has_sent<R: Wait>(&mut self, rt: &R, line: &mut CallLine<'_>) -> bool {
         is_in_lane(rt, &mut self.lane, line)
     }
 
-    // All passes are back. So many wires will be left.
+    // Returns whether all passes are back. `count` wires will be left then.
     fn is_left(&mut self, count: usize) -> bool {
         let is_full = self.list.is_full();
         self.left = if_so(is_full, count);
         is_full
     }
 
-    // What is none of a caller is so.
+    // Returns whether a line without a caller is right.
     fn says<R: Wait + Abort>(
         &mut self,
         rt: &R,
@@ -361,7 +362,7 @@ impl<P: Proto, W: Wire + Drop> Play<P, W> {
         is_right && words.is_read()
     }
 
-    // Each caller that is there gives its pass back.
+    // Gives the pass of each caller back, and returns whether the totals are right.
     fn all_give_back<R: Wait + Abort>(
         &mut self,
         rt: &R,
@@ -380,7 +381,7 @@ impl<P: Proto, W: Wire + Drop> Play<P, W> {
 }
 
 impl<P: Proto + Send, W: Wire + Send + Drop> Play<P, W> {
-    // The lines behind this one that begin with a plus sign are done in threads, and are right.
+    // Does the lines after this one that begin with a plus sign in threads, and returns whether they are right.
     fn works_together<R: Wait + Abort + Threads + Sync>(
         &mut self,
         rt: &R,
@@ -401,7 +402,7 @@ impl<P: Proto + Send, W: Wire + Send + Drop> Play<P, W> {
         marks.wrong.now() == 0
     }
 
-    // The line with this number is so.
+    // Returns whether the line with this number is true.
     fn is_so<R: Wait + Abort + Threads + Sync>(
         &mut self,
         rt: &R,
@@ -424,7 +425,8 @@ impl<P: Proto + Send, W: Wire + Send + Drop> Play<P, W> {
         }
     }
 
-    // The line with this number is right. One of threads was found so before, if there is such a caller.
+    // Returns whether the line with this number is right. A line of threads was checked before, if there is such a
+    // caller.
     fn is_right<R: Wait + Abort + Threads + Sync>(
         &mut self,
         rt: &R,
@@ -465,7 +467,7 @@ impl<P: Proto + Send, W: Wire + Send + Drop> Play<P, W> {
         None
     }
 
-    // Ends the socket. Whether as many wires are left as the last line says.
+    // Ends the socket, and returns whether as many wires are left as the last line says.
     fn ends<R: Wait + Abort>(self, rt: &R, marks: &ThreadMarks) -> bool {
         let Play {
             alloc,
@@ -486,14 +488,14 @@ impl<P: Proto + Send, W: Wire + Send + Drop> Play<P, W> {
     }
 }
 
-// No socket opened, for this error, as the one line says.
+// Returns whether the only line says that no socket opened, for this error.
 fn is_refused(alloc: Global, play: &str, code: u32) -> bool {
     let mut line = CallLine::new(alloc, play, 0);
     line.says("no_socket") && line.number() == code && line.is_read()
 }
 
-/// The number of the first line that a socket of this size over this machine finds wrong, from 1 on, or 0 where the
-/// whole is wrong. The size is so many slots and callers, as `4 2`.
+/// The number (from 1 on) of the first line that is wrong for a socket of this size over this machine, or 0 where the
+/// whole is wrong. The size is the numbers of slots and callers, as in `4 2`.
 pub fn wrong_line<P: Proto + Send, W: Wire + Send + Drop, R: Wait + Abort + Threads + Sync>(
     rt: &R,
     alloc: Global,

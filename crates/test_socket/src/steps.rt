@@ -1,4 +1,5 @@
-//! A caller's calls as a text: a line of a play without the number of its caller. The head of `plays` lists them.
+//! A caller's calls as a text: a line of a play without the number of its caller. The documentation of `plays` lists
+//! them.
 ghost use Rattle.test_socket.specs.Calls.{Calls};
 
 use crate::callers::Caller;
@@ -16,7 +17,7 @@ use std::alloc::Global;
 use std::process::Abort;
 use std::sync::Wait;
 
-// A send of this body begins, or doesn't, and the message comes back.
+// Returns whether a send of this body begins, or doesn't and the message comes back, as the line says.
 fn sends<P: Proto, W: Wire, R: Wait + Abort>(
     rt: &R,
     alloc: Global,
@@ -37,7 +38,7 @@ fn sends<P: Proto, W: Wire, R: Wait + Abort>(
     }
 }
 
-// Operations that begin.
+// Plays a call for operations that begin.
 fn begins<P: Proto, W: Wire, R: Wait + Abort>(
     rt: &R,
     alloc: Global,
@@ -64,7 +65,7 @@ fn begins<P: Proto, W: Wire, R: Wait + Abort>(
     }
 }
 
-// Operations that are collected, and what is received at once.
+// Plays a call that collects an operation, or that receives at once.
 fn collects<P: Proto, W: Wire, R: Wait + Abort>(
     rt: &R,
     socket: &Socket<P, W>,
@@ -105,7 +106,7 @@ fn tries<P: Proto, W: Wire>(
     }
 }
 
-// Does so for each generation of the slot up to this one.
+// Does the same for each generation of the slot up to this one.
 fn guesses<P: Proto, W: Wire>(
     socket: &Socket<P, W>,
     marks: &ThreadMarks,
@@ -122,7 +123,7 @@ fn guesses<P: Proto, W: Wire>(
     }
 }
 
-// Operations that are cancelled, expire and are looked at.
+// Plays a call for operations that are cancelled, expire and are polled.
 fn races<P: Proto, W: Wire, R: Wait>(
     rt: &R,
     socket: &Socket<P, W>,
@@ -166,7 +167,7 @@ fn races<P: Proto, W: Wire, R: Wait>(
     }
 }
 
-// Pipes that are served, and that are down, and the close.
+// Plays a call for pipes that are served, and that are down, and for the close.
 fn serves<P: Proto, W: Wire + Drop, R: Wait>(
     rt: &R,
     socket: &Socket<P, W>,
@@ -200,7 +201,7 @@ fn serves<P: Proto, W: Wire + Drop, R: Wait>(
     }
 }
 
-// Contexts and topics.
+// Plays a call for contexts and topics.
 fn has_contexts<P: Proto, W: Wire, R: Wait>(
     rt: &R,
     socket: &Socket<P, W>,
@@ -232,8 +233,8 @@ fn has_contexts<P: Proto, W: Wire, R: Wait>(
     }
 }
 
-// The caller does this, and what returns is what it says. Each part knows some of the calls, and finds none of the
-// others right.
+// Has the caller do this, and returns whether the result is what it says. Each part knows some of the calls, and
+// returns `false` for the others.
 fn does<P: Proto, W: Wire + Drop, R: Wait + Abort>(
     rt: &R,
     alloc: Global,
@@ -257,7 +258,7 @@ fn does<P: Proto, W: Wire + Drop, R: Wait + Abort>(
     is_right && line.is_read()
 }
 
-// It does each of these.
+// Has it do each of these.
 fn does_all<P: Proto, W: Wire + Drop, R: Wait + Abort>(
     rt: &R,
     alloc: Global,
@@ -278,7 +279,7 @@ fn does_all<P: Proto, W: Wire + Drop, R: Wait + Abort>(
     true
 }
 
-// It does so for each number from the first to the last one.
+// Has it do so for each number from the first to the last.
 fn does_rounds<P: Proto, W: Wire + Drop, R: Wait + Abort>(
     rt: &R,
     alloc: Global,
@@ -300,7 +301,7 @@ fn does_rounds<P: Proto, W: Wire + Drop, R: Wait + Abort>(
     first <= last
 }
 
-/// The caller does what the line says, and what returns is what it says.
+/// Has the caller do what the line says, and returns whether the result is what it says.
 pub fn does_line<P: Proto, W: Wire + Drop, R: Wait + Abort>(
     rt: &R,
     alloc: Global,

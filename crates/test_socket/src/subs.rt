@@ -1,4 +1,4 @@
-//! What a sub's socket returns of its contexts and topics.
+//! What a sub's socket returns for contexts and topics.
 use crate::machines::plays;
 
 #[test]

@@ -60,7 +60,7 @@ fn a_receive_times_out_at_its_deadline(rt: HostRuntime) {
     plays(&rt, rt.alloc(), "pull 4 2", "", play);
 }
 
-// A name that is due after it was cancelled is a loss of the caller that ticks.
+// An operation that is due after it was cancelled counts as lost for the caller that ticks.
 #[test]
 fn a_tick_loses_what_was_cancelled(rt: HostRuntime) {
     let play = "
@@ -201,7 +201,7 @@ fn slots_and_callers_have_bounds(rt: HostRuntime) {
     plays(&rt, alloc, "pull 4096 64", "", play);
 }
 
-// What is no call, has a word that is none, or a word too many, is wrong.
+// A line that is not a call, has an unknown word, or has a word too many, is wrong.
 #[test]
 fn a_line_that_is_no_call_is_wrong(rt: HostRuntime) {
     let play = "

@@ -20,7 +20,7 @@ fn two_threads_begin_serve_collect_and_close(rt: HostRuntime) {
     plays(&rt, rt.alloc(), "pull 4 3", "bytes*32", play);
 }
 
-// Receives on two pipes, by four callers that race for the lock.
+// Receives by four callers on two pipes, which race for the lock.
 #[test]
 fn four_threads_race_for_the_lock(rt: HostRuntime) {
     let play = "
@@ -99,7 +99,7 @@ fn waiting_ends_where_another_thread_cancels(rt: HostRuntime) {
 
 // ---- A race
 
-// One caller serves, two cancel, and one lets what is due expire. Each receive ends once, by one of them.
+// One caller serves, two cancel, and one lets due operations expire. Each receive ends once, by one of them.
 #[test]
 fn many_receives_are_raced(rt: HostRuntime) {
     let play = "
@@ -124,8 +124,8 @@ fn many_receives_are_raced(rt: HostRuntime) {
     plays(&rt, rt.alloc(), "pull 64 5", "bytes*48", play);
 }
 
-// One caller receives at once, again and again, and another cancels what it guesses. Each message is received, in
-// order.
+// One caller receives at once, again and again, and another cancels operations whose names it guesses. Each message is
+// received, in order.
 #[test]
 fn guessed_names_lose_no_message(rt: HostRuntime) {
     let play = "

@@ -1,4 +1,4 @@
-//! What a user of the library writes to have two requests under way at once.
+//! The code that a user of the library writes to have two requests under way at once.
 ghost use Rattle.std.specs.Prelude.{◌≡◌};
 ghost use Rattle.sp_proto.specs.Kinds.{Kind, Starts};
 ghost use Rattle.core_state.specs.Wires.{IsUnused};
@@ -50,7 +50,7 @@ fn reply<P: Proto, W: Wire, R: Wait + Abort>(
     socket.wait(rt, pass, op)
 }
 
-// Two requests are under way before the first reply is read. Returns the replies in the order of the requests.
+// Sends two requests before the first reply is read. Returns the replies in the order of the requests.
 fn ask_both<P: Proto, W: Wire, R: Wait + Abort>(
     rt: &R,
     alloc: Global,
@@ -71,8 +71,8 @@ fn ask_both<P: Proto, W: Wire, R: Wait + Abort>(
     (first, second)
 }
 
-/// Asks two things over the wire, each on a context of its own. Returns the two replies in the order of the requests,
-/// and the wires that are left.
+/// Sends two requests over the wire, each on a context of its own. Returns the two replies in the order of the
+/// requests, and the wires that are left.
 pub fn ask_two<W: Wire + Drop, R: Wait + Abort>(
     rt: &R,
     alloc: Global,
@@ -86,7 +86,7 @@ pub fn ask_two<W: Wire + Drop, R: Wait + Abort>(
     ask_over(rt, alloc, machine, wire)
 }
 
-// The same on a socket of any machine.
+// Does the same on a socket of any machine.
 fn ask_over<P: Proto, W: Wire + Drop, R: Wait + Abort>(
     rt: &R,
     alloc: Global,

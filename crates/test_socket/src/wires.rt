@@ -13,7 +13,7 @@ pub struct UnusedWires<W: Wire> {
     left: Vec<W>,
 }
 
-// Contracts see how many they are.
+// Contracts see the number of wires.
 impl<W: Wire> Model for UnusedWires<W> {
     ghost use Rattle.std.specs.Prelude.{ℕ, length};
     ghost use Rattle.aio_word.specs.Views.{Each};
@@ -27,14 +27,14 @@ impl<W: Wire> Model for UnusedWires<W> {
 }
 
 impl<W: Wire> UnusedWires<W> {
-    /// None.
+    /// No wires.
     pub fn new(alloc: Global) -> UnusedWires<W> {
         UnusedWires {
             left: Vec::new(alloc),
         }
     }
 
-    /// One more, the last one.
+    /// Adds a wire after the others.
     pub fn add(&mut self, rt: &impl Abort, wire: W)
         requires { IsUnused (W.shown wire) }
     {
@@ -44,7 +44,7 @@ impl<W: Wire> UnusedWires<W> {
         }
     }
 
-    /// The first one.
+    /// Takes the first wire.
     pub fn take(&mut self) -> Option<W>
         ensures { IfSome result (λ w. IsUnused (W.shown w)) }
     {

@@ -1,4 +1,4 @@
-//! What is compared of a result, and the words for it.
+//! The comparisons of results with lines, and the words for them.
 use crate::line::CallLine;
 use crate::marks::ThreadMarks;
 use aio_word::Phase;
@@ -31,7 +31,7 @@ fn cause_word(cause: Cause) -> &'static str {
     }
 }
 
-// How an operation stands.
+// The state of an operation.
 fn phase_word(phase: Phase) -> &'static str {
     match phase {
         Phase::Idle => "idle",
@@ -58,17 +58,17 @@ pub fn miss_of(word: &str) -> Option<Miss> {
     }
 }
 
-/// The word for whether it holds.
+/// The word for true or false.
 pub fn yes_or_no(it: bool) -> &'static str {
     if it { "yes" } else { "no" }
 }
 
-/// `error`, and its number.
+/// Returns whether the line says `error` and its number.
 pub fn is_error(line: &mut CallLine<'_>, e: SpError) -> bool {
     line.says("error") && line.number() == e.code()
 }
 
-/// The operation's name, or why none began.
+/// Returns whether the line has the operation's name, or the error for which none began.
 pub fn is_begun(line: &mut CallLine<'_>, returned: Result<OpName, BeginError>) -> bool {
     match returned {
         Ok(op) => line.names(op),
@@ -76,7 +76,7 @@ pub fn is_begun(line: &mut CallLine<'_>, returned: Result<OpName, BeginError>) -
     }
 }
 
-/// What was received at once, or why nothing was.
+/// Returns whether the line has what was received at once, or the error for which nothing was.
 pub fn is_now(line: &mut CallLine<'_>, returned: Result<Message, NowError>) -> bool {
     match returned {
         Ok(m) => line.says("received") && line.is_body(m.body()),
@@ -84,7 +84,7 @@ pub fn is_now(line: &mut CallLine<'_>, returned: Result<Message, NowError>) -> b
     }
 }
 
-/// `ok`, or why a context wasn't shut.
+/// Returns whether the line has `ok`, or the error for which a context wasn't shut.
 pub fn is_shut(line: &mut CallLine<'_>, returned: Result<(), CtxError>) -> bool {
     match returned {
         Ok(()) => line.says("ok"),
@@ -92,7 +92,7 @@ pub fn is_shut(line: &mut CallLine<'_>, returned: Result<(), CtxError>) -> bool 
     }
 }
 
-/// `ok`, or why a topic wasn't put on or taken off.
+/// Returns whether the line has `ok`, or the error for which a topic didn't change.
 pub fn is_switched(line: &mut CallLine<'_>, returned: Result<(), TopicError>) -> bool {
     match returned {
         Ok(()) => line.says("ok"),
@@ -100,7 +100,7 @@ pub fn is_switched(line: &mut CallLine<'_>, returned: Result<(), TopicError>) ->
     }
 }
 
-// The message that comes back, if one does.
+// Returns whether the line has the message that comes back, if one does.
 fn is_back(line: &mut CallLine<'_>, back: Option<Message>) -> bool {
     match back {
         None => true,
@@ -108,7 +108,7 @@ fn is_back(line: &mut CallLine<'_>, back: Option<Message>) -> bool {
     }
 }
 
-/// What an operation came to.
+/// Returns whether the line has the outcome of an operation.
 pub fn is_outcome(line: &mut CallLine<'_>, outcome: Outcome) -> bool {
     match outcome {
         Outcome::Received(m) => line.says("received") && line.is_body(m.body()),
@@ -122,7 +122,7 @@ pub fn is_outcome(line: &mut CallLine<'_>, outcome: Outcome) -> bool {
     }
 }
 
-/// The operation has ended. A message that it has received is counted.
+/// Returns whether the operation has ended. A message that it received is counted.
 pub fn is_counted(marks: &ThreadMarks, outcome: Option<Outcome>) -> bool {
     match outcome {
         Some(Outcome::Received(_)) => {
@@ -134,7 +134,7 @@ pub fn is_counted(marks: &ThreadMarks, outcome: Option<Outcome>) -> bool {
     }
 }
 
-/// Nothing was received, or the body of the one byte that is how many were counted before.
+/// Returns whether nothing was received, or a body of one byte, the count of those before.
 pub fn is_next(marks: &ThreadMarks, returned: Result<Message, NowError>) -> bool {
     match returned {
         Err(_) => true,
@@ -149,12 +149,12 @@ pub fn is_next(marks: &ThreadMarks, returned: Result<Message, NowError>) -> bool
     }
 }
 
-// The operation had ended so: `ended`, how, and by which caller.
+// Returns whether the line says `ended`, this phase and this caller.
 fn is_ended(line: &mut CallLine<'_>, phase: Phase, by: u32) -> bool {
     line.says("ended") && line.says(phase_word(phase)) && line.number() == by
 }
 
-/// What an exchange came to.
+/// Returns whether the line has the result of an exchange.
 pub fn is_raced(line: &mut CallLine<'_>, raced: Raced) -> bool {
     match raced {
         Raced::Won => line.says("won"),
@@ -163,7 +163,7 @@ pub fn is_raced(line: &mut CallLine<'_>, raced: Raced) -> bool {
     }
 }
 
-/// What a look found.
+/// Returns whether the line has the result of a poll.
 pub fn is_polled(line: &mut CallLine<'_>, polled: Polled) -> bool {
     match polled {
         Polled::Pending => line.says("pending"),
@@ -172,12 +172,12 @@ pub fn is_polled(line: &mut CallLine<'_>, polled: Polled) -> bool {
     }
 }
 
-/// The pipe, and why it went down.
+/// Returns whether the line has the pipe and the cause for which it went down.
 pub fn is_down(line: &mut CallLine<'_>, pipe: u32, why: Why) -> bool {
     line.number() == pipe && line.says(why_word(why))
 }
 
-// What was counted, and between so many frames; nothing was sent.
+// Returns whether the totals are what was counted, with as many frames as the line allows, and nothing was sent.
 fn are_counted(line: &mut CallLine<'_>, t: Totals, received: u64, ended: u64) -> bool {
     let (least, most) = (line.long(), line.long());
     t.begun == received.saturating_add(ended)
@@ -190,7 +190,7 @@ fn are_counted(line: &mut CallLine<'_>, t: Totals, received: u64, ended: u64) ->
         && t.fulls == 0
 }
 
-/// What a close returns: six numbers, or `counted` and two.
+/// Returns whether the line has the totals of a close: six numbers, or `counted` and two.
 pub fn are_totals(line: &mut CallLine<'_>, marks: &ThreadMarks, t: Totals) -> bool {
     let mut counted = *line;
     if counted.says("counted") {
@@ -205,7 +205,7 @@ pub fn are_totals(line: &mut CallLine<'_>, marks: &ThreadMarks, t: Totals) -> bo
         && line.long() == t.fulls
 }
 
-/// A mark is set, or is seen to be 1; or so much was counted.
+/// Sets a mark, waits for one, or compares the counts, and returns whether the line is right.
 pub fn is_marked(line: &mut CallLine<'_>, marks: &ThreadMarks, name: &str) -> bool {
     match name {
         "marks" => match marks.named(line.word()) {

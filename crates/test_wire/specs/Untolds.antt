@@ -1,4 +1,4 @@
--- What links show that tell nothing of their bytes.
+-- What links show that tell nothing about their bytes.
 use Rattle.std.specs.Prelude.{ℕ, List, false, None}
 use Rattle.sp_base.specs.Views.{LinkView}
 use Rattle.sp_base.specs.declared.addr.Scheme.TheVariants as schemes
@@ -22,7 +22,7 @@ tube_view t = record {
   ended = false;
 }
 
--- what was written on a tube, and how many writes there were
+-- what was written on a tube, and the number of writes
 abbrev pub written_in : Tube → List ℕ
 written_in t = t.bytes.items
 

@@ -1,4 +1,4 @@
-//! What the buffer of a wire comes to after a large message.
+//! The buffer of a wire after a large message.
 ghost use Rattle.std.specs.Prelude.{◌≡◌, true};
 ghost use Rattle.test_wire.specs.Untolds.{untold_view};
 
@@ -14,7 +14,7 @@ use std::sync::Wait;
 /// The body of a large message.
 const LARGE: usize = 1_048_576;
 
-/// A link in memory, whose bytes proofs don't see; it notes for how many bytes its last read had room.
+/// A link in memory, whose bytes proofs don't see; it notes the room of its last read in bytes.
 #[derive(Drop)]
 struct NotingLink {
     link: MemLink,
@@ -44,7 +44,7 @@ impl Link for NotingLink {
 
 fn is_send<T: Send>() {}
 
-// A wire goes to another thread wherever its link does.
+// A wire may go to another thread wherever its link may.
 fn is_send_over<L: Link + Send>() {
     is_send::<TcpWire<L>>();
 }
@@ -59,7 +59,7 @@ fn large(rt: &impl Abort, alloc: Global) -> Bytes {
     frame
 }
 
-// A wire over a link that brings a large message, and then nothing for ever.
+// A wire over a link that brings a large message, and then nothing.
 fn wire(rt: &impl Abort, alloc: Global) -> TcpWire<NotingLink>
     ensures { result.wire.is_open ≡ true }
 {
@@ -75,7 +75,7 @@ fn wire(rt: &impl Abort, alloc: Global) -> TcpWire<NotingLink>
     }
 }
 
-// How many bytes the messages have that so many pulls give.
+// The number of bytes of the messages that `times` pulls give.
 fn pulled<W: Wire, R: Wait>(rt: &R, wire: &mut W, times: u32) -> usize
     requires { (W.shown wire.old).is_open ≡ true }
 {
@@ -94,7 +94,7 @@ fn pulled<W: Wire, R: Wait>(rt: &R, wire: &mut W, times: u32) -> usize
     came
 }
 
-// The room of the last read of so many pulls; none where the message didn't come whole.
+// The room of the last read of `times` pulls; `None` where the message didn't come whole.
 fn room_after<R: Wait + Abort>(alloc: Global, rt: &R, times: u32) -> Option<usize> {
     let mut wire = wire(rt, alloc);
     let came = pulled(rt, &mut wire, times);
@@ -102,7 +102,7 @@ fn room_after<R: Wait + Abort>(alloc: Global, rt: &R, times: u32) -> Option<usiz
     (came == LARGE).then_some(room)
 }
 
-// The first pull gives the message, and the second one finds nothing more and lets the buffer go.
+// The first pull gives the message, and the second finds nothing more and drops the buffer.
 #[test]
 fn a_wire_reads_into_little_room_after_a_large_message(rt: HostRuntime) {
     let before = room_after(rt.alloc(), &rt, 2);

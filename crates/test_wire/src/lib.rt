@@ -1,6 +1,6 @@
-//! Worked rows of messages and wires, and two links that serve them: one that reads by a script, and one that gives
-//! back what was written and counts the writes. Both tell nothing of their bytes to proofs, so a wire may be made
-//! over them without greetings.
+//! Examples of messages and wires, and two links for them: one that reads by a script, and one that gives back what was
+//! written and counts the writes. Both tell proofs nothing about their bytes, so a wire may be made over them without
+//! greetings.
 #![tactic(auto)]
 
 #[cfg(test)]

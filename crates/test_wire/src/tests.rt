@@ -21,7 +21,7 @@ fn cut(rt: &impl Abort, alloc: Global) -> Message {
     m
 }
 
-// The same with `xy` before and `z` behind, and a word in its header.
+// The same with `xy` before and `z` after, and a word in its header.
 fn edited(rt: &impl Abort, alloc: Global) -> Message {
     let mut m = cut(rt, alloc);
     made(rt, m.insert(b"xy"));
@@ -90,7 +90,7 @@ fn a_header_holds_sixteen_words(rt: HostRuntime) {
 
 // ---- what is pulled
 
-// A wire over a link with this script, that takes so many bytes a write; its writes with these numbers fail.
+// A wire over a link with this script, that takes `take` bytes a write; its writes with these numbers fail.
 fn scripted(
     rt: &impl Abort,
     alloc: Global,
@@ -111,7 +111,7 @@ fn scripted(
     }
 }
 
-// The same, where the link gives the bytes in pieces of so many with a pause behind each, and then ends.
+// The same, where the link gives the bytes in pieces of length `piece` with a pause after each, and then ends.
 fn wire(
     rt: &impl Abort,
     alloc: Global,
@@ -153,7 +153,7 @@ fn pieces(rt: &impl Abort, alloc: Global, bytes: &[u8], piece: usize) -> Vec<Lin
     script
 }
 
-// What is pulled: each body in brackets, and how it ends.
+// What is pulled: each body in brackets, and how the pulls end.
 fn pulls<W: Wire, R: Wait + Abort>(alloc: Global, rt: &R, wire: &mut W) -> Vec<u8>
     requires { (W.shown wire.old).is_open ≡ true }
 {
@@ -191,7 +191,7 @@ fn pulls<W: Wire, R: Wait + Abort>(alloc: Global, rt: &R, wire: &mut W) -> Vec<u
     said
 }
 
-// The same by the plain reader.
+// The same with the plain reader.
 fn plainly(rt: &impl Abort, alloc: Global, bytes: &[u8], max: u32) -> Vec<u8> {
     let mut said = Vec::new(alloc);
     let mut reader = Reader::new(alloc);
@@ -218,7 +218,7 @@ fn plainly(rt: &impl Abort, alloc: Global, bytes: &[u8], max: u32) -> Vec<u8> {
     said
 }
 
-// Whether the wire gives the wanted in this cutting, and so does the plain reader.
+// Returns whether the wire gives `wanted` from pieces of this length, and so does the plain reader.
 fn agrees<R: Wait + Abort>(
     alloc: Global,
     rt: &R,
@@ -232,7 +232,7 @@ fn agrees<R: Wait + Abort>(
     said.as_slice() == wanted && plain.as_slice() == wanted
 }
 
-// Whether the wire and the plain reader give the wanted in pieces of each length up to 9.
+// Returns whether the wire and the plain reader give `wanted` from pieces of each length up to 9.
 fn agrees_in_pieces<R: Wait + Abort>(alloc: Global, rt: &R, bytes: &[u8], wanted: &[u8]) -> bool {
     let mut agreed = true;
     for piece in 1..10 {
@@ -265,7 +265,7 @@ fn a_wire_agrees_with_the_plain_reader(rt: HostRuntime) {
             b"[abc]e",
         ),
     );
-    // one above the limit
+    // one byte above the limit
     let bytes = b"\x00\x00\x00\x00\x00\x00\x00\x01a\x00\x00\x00\x00\x00\x00\x00\x04abcd";
     holds(&rt, agrees_in_pieces(alloc, &rt, bytes, b"[a]x"));
     // a size of which only the first 4 bytes differ from 1
@@ -275,14 +275,14 @@ fn a_wire_agrees_with_the_plain_reader(rt: HostRuntime) {
     );
 }
 
-// Whether the wire pulls this.
+// Returns whether the wire pulls this.
 fn gives<W: Wire, R: Wait + Abort>(alloc: Global, rt: &R, wire: &mut W, wanted: &[u8]) -> bool
     requires { (W.shown wire.old).is_open ≡ true }
 {
     pulls(alloc, rt, wire).as_slice() == wanted
 }
 
-// Whether a wire with the usual limit pulls this of these bytes.
+// Returns whether a wire with the usual limit pulls this from these bytes.
 fn gives_usual<R: Wait + Abort>(alloc: Global, rt: &R, bytes: &[u8], wanted: &[u8]) -> bool {
     let mut wire = wire(rt, alloc, bytes, 8, 1, &[], 1_048_576);
     gives(alloc, rt, &mut wire, wanted)
@@ -346,7 +346,7 @@ fn mem(rt: &impl Abort, alloc: Global, end: WireStep, fails: &[u64]) -> MemWire
     MemWire::new(alloc, steps, 1, made(rt, Vec::from_slice(alloc, fails)))
 }
 
-// Whether a wire in memory with this end, of which the pulls with these numbers fail, pulls this.
+// Returns whether a wire in memory with this end, whose pulls with these numbers fail, pulls this.
 fn mem_gives<R: Wait + Abort>(
     alloc: Global,
     rt: &R,
@@ -391,7 +391,7 @@ fn texts(rt: &impl Abort, alloc: Global, messages: &[Message]) -> Vec<u8> {
 
 // ---- what is put
 
-// Puts so many messages where there is room, and says what each `room` returned.
+// Puts `times` messages where there is room, and tells what each `room` returned.
 fn puts<W: Wire, R: Wait + Abort>(alloc: Global, rt: &R, wire: &mut W, times: u32) -> String
     requires { (W.shown wire.old).is_open ≡ true }
 {
@@ -492,7 +492,7 @@ fn nothing_is_written_while_there_is_room(rt: HostRuntime) {
     same(&rt, wire.into_link().writes(), 0);
 }
 
-// Puts a message, says what so many flushes returned, and shuts the wire.
+// Puts a message, tells what `times` flushes returned, and shuts the wire.
 fn flushes<W: Wire, R: Wait + Abort>(alloc: Global, rt: &R, wire: &mut W, times: u32) -> String
     requires { (W.shown wire.old).is_open ≡ true }
 {

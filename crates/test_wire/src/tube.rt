@@ -12,23 +12,23 @@ use std::alloc::Global;
 pub struct Tube {
     /// What was written.
     bytes: Vec<u8>,
-    /// How many bytes were read.
+    /// The number of bytes that were read.
     at: usize,
-    /// How many writes take nothing, before one takes all.
+    /// The number of writes that take nothing, before one takes all.
     held: u64,
-    /// How many writes there were.
+    /// The number of writes.
     writes: u64,
-    /// Writes that failed.
+    /// The number of writes that failed.
     fault_count: u64,
-    /// Reads that found nothing.
+    /// The number of reads that found nothing.
     idle_count: u64,
-    /// Writes that took nothing.
+    /// The number of writes that took nothing.
     stall_count: u64,
-    /// It was not shut yet.
+    /// Whether it was not shut yet.
     opened: bool,
 }
 
-// Copies the first bytes of one piece over those of another; how many.
+// Copies the first bytes of one piece over those of another, and returns how many.
 fn copy_prefix(from: &[u8], to: &mut [u8]) -> usize
     ensures within { result ≤ length to.new }
     ensures most { result ≤ length from.now }
@@ -39,7 +39,7 @@ fn copy_prefix(from: &[u8], to: &mut [u8]) -> usize
 }
 
 impl Tube {
-    /// An empty one, whose first writes take nothing.
+    /// An empty tube, whose first `held` writes take nothing.
     pub fn new(alloc: Global, held: u64) -> Tube
         ensures is_open { (tube_view result).is_open ≡ true }
         ensures empty { written_in result ≡ [] }
@@ -57,21 +57,21 @@ impl Tube {
         }
     }
 
-    /// How many writes there were, also those that took nothing.
+    /// The number of writes, including those that took nothing.
     pub fn writes(&self) -> u64
         ensures { result ≡ writes_of self.now }
     {
         self.writes
     }
 
-    /// Whether it was not shut yet.
+    /// Returns whether it was not shut yet.
     pub fn is_open(&self) -> bool
         ensures { result ≡ (tube_view self.now).is_open }
     {
         self.opened
     }
 
-    /// How many bytes were written.
+    /// The number of bytes that were written.
     pub fn len(&self) -> usize
         ensures { result ≡ length (written_in self.now) }
     {

@@ -1,4 +1,4 @@
-//! A link in memory that tells nothing of its bytes to proofs.
+//! A link in memory that tells proofs nothing about its bytes.
 ghost use Rattle.test_wire.specs.Untolds.{untold_view};
 
 use sp_base::{Link, LinkRead, LinkWrite};

@@ -1,4 +1,4 @@
-//! A peer that sends without pause what is no message. Its link brings only so much before it returns NotYet once.
+//! A peer that sends without pause, but no messages. Its link brings a limited amount before it returns `NotYet` once.
 
 use crate::checks::{holds, made};
 use crate::frames::{over, pieces};
@@ -11,7 +11,7 @@ use std::sync::Wait;
 
 const HELLO: &[u8] = b"\x82\x85\x37\xfa\x21\x3d\x7f\x9f\x4d\x51\x58";
 
-// These bytes, then this frame 5,000 times, and then those.
+// The bytes `before`, then this frame 5,000 times, and then the bytes `behind`.
 fn flood(rt: &impl Abort, alloc: Global, before: &[u8], frame: &[u8], behind: &[u8]) -> Vec<u8> {
     let mut bytes = made(rt, Vec::from_slice(alloc, before));
     for _ in 0..5_000u32 {
@@ -21,7 +21,7 @@ fn flood(rt: &impl Abort, alloc: Global, before: &[u8], frame: &[u8], behind: &[
     bytes
 }
 
-// How many pulls return NotYet before one gives this message; none where another result comes.
+// The number of pulls that return `NotYet` before one gives this message; `None` where another result comes.
 fn waits<R: Wait>(rt: &R, mut wire: WsWire<MemLink>, wanted: &[u8]) -> Option<u32> {
     for count in 0..10u32 {
         if !wire.is_open() {
@@ -36,7 +36,7 @@ fn waits<R: Wait>(rt: &R, mut wire: WsWire<MemLink>, wanted: &[u8]) -> Option<u3
     None
 }
 
-// Whether each pull ends where the link has brought 8,192 bytes, and the next one goes on there.
+// Returns whether each pull ends where the link has brought 8,192 bytes, and the next one goes on there.
 fn goes_on<R: Wait + Abort>(alloc: Global, rt: &R, bytes: &[u8], wanted: &[u8]) -> bool {
     let script = pieces(rt, alloc, bytes, 8_192, LinkStep::NotYet);
     let link = MemLink::new(alloc, script, 100_000, Vec::new(alloc));

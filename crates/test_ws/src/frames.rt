@@ -1,4 +1,4 @@
-//! What a wire pulls of the frames that come (RFC 6455 sections 5.2 to 5.7).
+//! What a wire pulls from the frames that come (RFC 6455 sections 5.2 to 5.7).
 ghost use Rattle.std.specs.Prelude.{◌≡◌, true};
 ghost use Rattle.sp_fakes.specs.MemLinks.{link_view};
 
@@ -14,7 +14,7 @@ use std::sync::Wait;
 
 const MAX: u32 = 1_048_576;
 
-/// The bytes in pieces of so many with a pause behind each, and then this step.
+/// The bytes in pieces of length `piece` with a pause after each, and then the step `last`.
 pub(crate) fn pieces(
     rt: &impl Abort,
     alloc: Global,
@@ -58,7 +58,7 @@ pub(crate) fn over(
     }
 }
 
-// What is pulled: each body in brackets, and how it ends.
+// What is pulled: each body in brackets, and how the pulls end.
 fn pulls<W: Wire, R: Wait + Abort>(alloc: Global, rt: &R, wire: &mut W) -> Vec<u8>
     requires { (W.shown wire.old).is_open ≡ true }
 {
@@ -108,7 +108,7 @@ pub(crate) fn pulled<R: Wait + Abort>(
     pulls(alloc, rt, &mut wire)
 }
 
-/// Whether a wire on this side pulls what is wanted of these bytes, in pieces of so many.
+/// Returns whether a wire on this side pulls `wanted` from these bytes, in pieces of length `piece`.
 pub(crate) fn gives<R: Wait + Abort>(
     alloc: Global,
     rt: &R,
@@ -123,7 +123,7 @@ pub(crate) fn gives<R: Wait + Abort>(
     pulled(alloc, rt, link, side, &[], max).as_slice() == wanted
 }
 
-// Whether it does so byte by byte, and all at once.
+// Returns whether it does so byte by byte, and all at once.
 fn gives_both<R: Wait + Abort>(
     alloc: Global,
     rt: &R,
@@ -136,7 +136,7 @@ fn gives_both<R: Wait + Abort>(
     slow && quick
 }
 
-// A wire on this side pulls what stands behind the bar of each row.
+// Checks that a wire on this side pulls what follows the bar of each row.
 fn check_rows<R: Wait + Abort>(alloc: Global, rt: &R, side: Side, rows: &str) {
     let mut number: u32 = 0;
     for row in rows.as_bytes().split(|byte| *byte == b'\n') {
@@ -157,7 +157,7 @@ fn check_rows<R: Wait + Abort>(alloc: Global, rt: &R, side: Side, rows: &str) {
 
 const HELLO: &[u8] = b"\x82\x85\x37\xfa\x21\x3d\x7f\x9f\x4d\x51\x58";
 
-// Frames of a client and what a server pulls of them. The last is the masked pong of RFC 6455 section 5.7.
+// Frames of a client and what a server pulls from them. The last is the masked pong of RFC 6455 section 5.7.
 const PULLED: &str = "\
 828537fa213d7f9f'MQX | '[Hello]e
 828000000000' | '[]e
@@ -219,7 +219,7 @@ fn a_client_pulls_unmasked_messages(rt: HostRuntime) {
     check_rows(rt.alloc(), &rt, Side::Client { seed: 7 }, UNMASKED);
 }
 
-// Whether a server pulls what is wanted of these bytes, where a message may have so many bytes.
+// Returns whether a server pulls `wanted` from these bytes, where a message may have `max` bytes.
 fn gives_up_to<R: Wait + Abort>(
     alloc: Global,
     rt: &R,
@@ -238,12 +238,12 @@ fn a_message_has_at_most_max_bytes(rt: HostRuntime) {
     holds(&rt, gives_up_to(alloc, &rt, five, 4, b"x"));
     holds(&rt, gives_up_to(alloc, &rt, HELLO, 5, b"[Hello]e"));
     holds(&rt, gives_up_to(alloc, &rt, HELLO, 4, b"x"));
-    // the second fragment passes the limit, and no fragment is the last
+    // the second fragment exceeds the limit, and neither fragment is the last
     let begun: &[u8] = b"\x02\x83\x00\x00\x00\x00abc\x00\x82\x00\x00\x00\x00de";
     holds(&rt, gives_up_to(alloc, &rt, begun, 4, b"x"));
 }
 
-// A masked frame of so many bytes 0, with its length in eight bytes.
+// A masked frame of `length` zero bytes, with its length in eight bytes.
 fn zeroes(rt: &impl Abort, alloc: Global, length: u64) -> Vec<u8> {
     let mut frame = made(rt, Vec::from_slice(alloc, b"\x82\xff"));
     made(rt, frame.extend_from_slice(&length.to_be_bytes()));
@@ -254,7 +254,7 @@ fn zeroes(rt: &impl Abort, alloc: Global, length: u64) -> Vec<u8> {
     frame
 }
 
-// How long the first message is that the wire pulls; and whether what it pulls is malformed.
+// The length of the first message that the wire pulls, and whether what it pulls is malformed.
 fn first_of<W: Wire, R: Wait + Abort>(rt: &R, wire: &mut W) -> (usize, bool)
     requires { (W.shown wire.old).is_open ≡ true }
 {
@@ -266,7 +266,7 @@ fn first_of<W: Wire, R: Wait + Abort>(rt: &R, wire: &mut W) -> (usize, bool)
     }
 }
 
-// The same of a wire on this side, to which these bytes come.
+// The same for a wire on this side, to which these bytes come.
 fn first_length<R: Wait + Abort>(alloc: Global, rt: &R, side: Side, bytes: &[u8]) -> (usize, bool) {
     let script = pieces(rt, alloc, bytes, bytes.len(), LinkStep::NotYet);
     let link = MemLink::new(alloc, script, 100, Vec::new(alloc));
@@ -284,7 +284,7 @@ fn a_mebibyte_is_pulled_and_no_byte_more(rt: HostRuntime) {
     same(&rt, first, (0, true));
 }
 
-// Whether a client pulls a message of so many bytes behind this header.
+// Returns whether a client pulls a message of `length` bytes after this header.
 fn pulls_length<R: Wait + Abort>(alloc: Global, rt: &R, header: &[u8], length: usize) -> bool {
     let mut frame = made(rt, Vec::from_slice(alloc, header));
     made(rt, frame.resize(header.len().saturating_add(length), b'a'));
@@ -308,7 +308,7 @@ fn bytes_behind_the_head_come_first(rt: HostRuntime) {
     same(&rt, said.as_slice(), b"[Hello]e".as_slice());
 }
 
-// Whether the wire has room and nothing to write, and then pulls this message.
+// Returns whether the wire has room and nothing to write, and then pulls this message.
 fn gives_after_a_flush<R: Wait>(rt: &R, w: &mut WsWire<MemLink>, wanted: &[u8]) -> bool
     requires { w.old.wire.is_open ≡ true }
 {

@@ -1,4 +1,4 @@
-//! Worked heads: the sample of RFC 6455 section 1.3 with the subprotocol of SP, and heads near it.
+//! Examples of heads: the sample of RFC 6455 section 1.3 with the subprotocol of SP, and heads near it.
 
 use crate::checks::{holds, made, same, same_at};
 use sp_base::{Addr, Bytes, Host, Role};
@@ -17,7 +17,7 @@ pub(crate) const REQUEST: &[u8] = b"\
     Sec-WebSocket-Protocol: rep.sp.nanomsg.org\r\n\
     \r\n";
 
-/// Its answer.
+/// The answer to the client's head.
 pub(crate) const RESPONSE: &[u8] = b"\
     HTTP/1.1 101 Switching Protocols\r\n\
     Upgrade: websocket\r\n\
@@ -28,7 +28,7 @@ pub(crate) const RESPONSE: &[u8] = b"\
 
 const NONCE: &[u8] = b"the sample nonce";
 
-/// The sample with this text in place of that one, where it stands first.
+/// The sample with the first `old` replaced by `new`.
 pub(crate) fn varied(
     rt: &impl Abort,
     alloc: Global,
@@ -90,7 +90,7 @@ fn is_more(alloc: Global, came: &[u8]) -> bool {
     }
 }
 
-// The sample with an ignored line, so that it is so many bytes long in all.
+// The sample with an ignored line, so that it is `length` bytes long in all.
 fn padded(rt: &impl Abort, alloc: Global, length: usize) -> Vec<u8> {
     let mut line = made(rt, Vec::from_slice(alloc, b"X-Y: "));
     made(rt, line.resize(length.saturating_sub(199), b'a'));
@@ -98,7 +98,7 @@ fn padded(rt: &impl Abort, alloc: Global, length: usize) -> Vec<u8> {
     varied(rt, alloc, REQUEST, b"Host", &line)
 }
 
-/// The sample with so many lines more.
+/// The sample with `more` more lines.
 pub(crate) fn with_lines(rt: &impl Abort, alloc: Global, more: usize) -> Vec<u8> {
     let mut lines = Vec::new(alloc);
     for _ in 0..more {
@@ -215,7 +215,7 @@ fn a_client_writes_its_head(rt: HostRuntime) {
     same(&rt, head.as_slice(), REQUEST);
 }
 
-// A fault, the text in the sample that is replaced, and what stands there; bars stand between the rows.
+// A fault, the text in the sample that is replaced, and its replacement; bars separate the rows.
 const ANSWERS: &[u8] = b"\
     Status^101 Switching Protocols^200 OK|\
     Status^101 Switching^100 Switching|\
@@ -243,7 +243,7 @@ fn parts(row: &[u8]) -> Option<(&[u8], &[u8], &[u8])> {
     Some((parts.next()?, parts.next()?, parts.next()?))
 }
 
-// Each row's answer has its fault at a dialing req.
+// Checks that each row's answer has its fault at a dialing req.
 fn check_answers(rt: &impl Abort, alloc: Global, rows: &[u8]) {
     let mut number: u32 = 0;
     for row in rows.split(|byte| *byte == b'|') {

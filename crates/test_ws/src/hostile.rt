@@ -7,12 +7,12 @@ use sp_upgrade::HeadFault;
 use std::alloc::Global;
 use std::process::Abort;
 
-// The head has this fault.
+// Aborts unless the head has this fault.
 fn has_fault(rt: &impl Abort, alloc: Global, came: &[u8], wanted: HeadFault) {
     same(rt, fault(alloc, came), Some(wanted));
 }
 
-// The sample with each of these texts in place of the old one has this fault; bars stand between the texts.
+// Checks that the sample with each of these texts in place of the old one has this fault; bars separate the texts.
 fn check_each(rt: &impl Abort, alloc: Global, old: &[u8], texts: &[u8], wanted: HeadFault) {
     let mut number: u32 = 0;
     for new in texts.split(|byte| *byte == b'|') {
@@ -165,7 +165,7 @@ fn heads_of_too_many_lines_are_refused(rt: HostRuntime) {
     }
 }
 
-// These bytes, and behind them this line 8,192 times.
+// These bytes, followed by this line 8,192 times.
 fn endless(rt: &impl Abort, alloc: Global, begun: &[u8], line: &[u8]) -> Vec<u8> {
     let mut came = made(rt, Vec::from_slice(alloc, begun));
     for _ in 0..8_192u32 {

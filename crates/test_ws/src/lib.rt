@@ -1,5 +1,5 @@
-//! Worked rows of WebSocket: heads that open it and heads that don't, frames that come, and what is written. And links
-//! in memory that are opened in each of the ways: by a greeting, by serving and by asking.
+//! Examples of WebSocket: heads that open it and heads that don't, frames that come, and what is written. And links in
+//! memory that are opened in each of the ways: by a greeting, by serving and by asking.
 #![tactic(auto)]
 
 #[cfg(test)]

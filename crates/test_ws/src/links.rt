@@ -22,7 +22,7 @@ const ANSWERED: &[u8] =
 // What a rep writes first over TCP.
 const GREETING: &[u8] = b"\x00SP\x00\x00\x31\x00\x00";
 
-// A link that takes 40 bytes a write. It brings these pieces, the second after so many bytes were written.
+// A link that takes 40 bytes a write. It brings these pieces, the second after `after` bytes were written.
 fn linked(
     rt: &impl Abort,
     alloc: Global,
@@ -55,7 +55,8 @@ fn greet_twice(opening: &mut Opening<MemLink>, alloc: Global) -> Progress
     }
 }
 
-// Whether the opening comes to this, after the link wrote that. If it is opened, these bytes are behind the peer's part.
+// Returns whether the opening has this result, after the link wrote `written`. If it is opened, the bytes `behind`
+// follow the peer's part.
 fn comes_to(
     alloc: Global,
     link: MemLink,
@@ -77,7 +78,7 @@ fn comes_to(
     is_wanted && (wanted != Progress::Opened || has_behind) && link.written() == written
 }
 
-// Whether these bytes follow the first so many.
+// Returns whether the bytes `behind` follow the first `used`.
 fn is_behind(came: &[u8], used: Option<usize>, behind: &[u8]) -> bool {
     match used {
         Some(used) => used <= came.len() && &came[used..] == behind,

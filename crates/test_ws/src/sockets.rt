@@ -1,4 +1,4 @@
-//! What a socket over memory gives, sends and keeps, call by call.
+//! What a WebSocket over memory gives, sends and keeps, call by call.
 
 use crate::checks::{holds, is_ok, made, same};
 use sp_ws::{FrameIn, FrameOut, Frames, MemorySocket, Side};
@@ -7,7 +7,7 @@ use std::process::Abort;
 
 const HELLO: &[u8] = b"\x82\x85\x37\xfa\x21\x3d\x7f\x9f\x4d\x51\x58";
 
-// Whether the next message is this one.
+// Returns whether the next message is this one.
 fn gives(socket: &mut MemorySocket, wanted: &[u8]) -> bool {
     match socket.next() {
         FrameIn::Binary(body) => body.as_slice() == wanted,
@@ -15,12 +15,12 @@ fn gives(socket: &mut MemorySocket, wanted: &[u8]) -> bool {
     }
 }
 
-// Whether nothing whole is left.
+// Returns whether nothing whole is left.
 fn is_idle(socket: &mut MemorySocket) -> bool {
     matches!(socket.next(), FrameIn::Idle)
 }
 
-// The link takes so many bytes at most.
+// Has the link take at most `n` bytes.
 fn take(socket: &mut MemorySocket, n: usize) {
     let n = n.min(socket.waiting().len());
     socket.taken(n);
@@ -61,7 +61,7 @@ fn what_is_fed_comes_behind_what_was_fed(rt: HostRuntime) {
     holds(&rt, is_idle(&mut socket));
 }
 
-// So many pings with the body `p`.
+// `count` pings with the body `p`.
 fn pings(rt: &impl Abort, alloc: Global, count: u32) -> Vec<u8> {
     let mut bytes = Vec::new(alloc);
     for _ in 0..count {
@@ -70,8 +70,8 @@ fn pings(rt: &impl Abort, alloc: Global, count: u32) -> Vec<u8> {
     bytes
 }
 
-// The most bytes that wait while pings come in so many pieces and the link takes nothing; 0 where one isn't passed
-// over.
+// The greatest number of bytes that wait while the pings come `pieces` times and the link takes nothing; 0 where one
+// isn't skipped.
 fn most_waiting(socket: &mut MemorySocket, pings: &[u8], pieces: u32) -> usize {
     let mut most = 0;
     for _ in 0..pieces {
@@ -83,7 +83,7 @@ fn most_waiting(socket: &mut MemorySocket, pings: &[u8], pieces: u32) -> usize {
     most
 }
 
-// 100,000 pings, of which the link takes no pong; then it takes all, and the last ping has its pong.
+// 100,000 pings whose pongs the link doesn't take; then it takes all, and the last ping has its pong.
 #[test]
 fn pongs_do_not_pile_up(rt: HostRuntime) {
     let mut socket = MemorySocket::new(rt.alloc(), Side::Server, 100);
@@ -111,14 +111,14 @@ fn each_ping_has_its_pong(rt: HostRuntime) {
     holds(&rt, socket.waiting().starts_with(b"\x82\x01q\x8a\x01p"));
 }
 
-// One frame more, of 100 bytes that begin with this number.
+// Adds a frame of 100 bytes that begin with this number.
 fn add_numbered(rt: &impl Abort, frames: &mut Vec<u8>, number: u32) {
     made(rt, frames.extend_from_slice(b"\x82\x64"));
     made(rt, frames.extend_from_slice(&number.to_be_bytes()));
     made(rt, frames.extend_from_slice(&[b'a'; 96]));
 }
 
-// Whether the next message begins with this number.
+// Returns whether the next message begins with this number.
 fn gives_numbered(socket: &mut MemorySocket, number: u32) -> bool {
     match socket.next() {
         FrameIn::Binary(body) => body.as_slice().starts_with(&number.to_be_bytes()),
@@ -126,7 +126,7 @@ fn gives_numbered(socket: &mut MemorySocket, number: u32) -> bool {
     }
 }
 
-// More than 100,000 bytes are fed at once, and more than that wait for the link: each message comes, in order.
+// More than 100,000 bytes are fed at once, and more wait for the link: each message comes, in order.
 #[test]
 fn each_message_of_a_long_row_comes(rt: HostRuntime) {
     let mut socket = MemorySocket::new(rt.alloc(), Side::Client { seed: 1 }, 200_000);
@@ -165,8 +165,8 @@ fn add_given(rt: &impl Abort, socket: &mut MemorySocket, bytes: &[u8], said: &mu
     }
 }
 
-// A socket whose buffer a long message took is replaced once it has nothing left. Wherever what comes behind that
-// message is cut in two, nothing is lost.
+// A socket whose buffer grew for a long message is replaced once it has nothing left. Wherever the bytes after that
+// message are cut in two, nothing is lost.
 #[test]
 fn nothing_is_lost_behind_a_long_message(rt: HostRuntime) {
     let alloc = rt.alloc();

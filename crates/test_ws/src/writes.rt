@@ -12,7 +12,7 @@ use std::sync::Wait;
 
 const MAX: u32 = 1_048_576;
 
-// A wire over a link that gives nothing and takes so many bytes a write; the writes with these numbers fail.
+// A wire over a link that gives nothing and takes `take` bytes a write; the writes with these numbers fail.
 fn quiet(
     rt: &impl Abort,
     alloc: Global,
@@ -26,7 +26,8 @@ fn quiet(
     over(rt, alloc, link, side, &[], MAX)
 }
 
-// What a wire on this side writes while it pulls all of these bytes, which are no message, and whether it has ended then.
+// What a wire on this side writes while it pulls all of these bytes, which are no message, and whether it has ended
+// after that.
 fn answered<R: Wait + Abort>(alloc: Global, rt: &R, side: Side, bytes: &[u8]) -> (Vec<u8>, bool) {
     let script = pieces(rt, alloc, bytes, 100, LinkStep::NotYet);
     let link = MemLink::new(alloc, script, 100, Vec::new(alloc));
@@ -37,7 +38,7 @@ fn answered<R: Wait + Abort>(alloc: Global, rt: &R, side: Side, bytes: &[u8]) ->
     (made(rt, Vec::from_slice(alloc, link.written())), has_ended)
 }
 
-// What answers these bytes is written by the pull that found them.
+// Checks that the answer to these bytes is written by the pull that found them.
 fn check_answer<R: Wait + Abort>(
     alloc: Global,
     rt: &R,
@@ -76,7 +77,7 @@ fn a_close_frame_answers_a_close_frame(rt: HostRuntime) {
     check_answer(alloc, &rt, side, answer, masked, true);
 }
 
-// Puts messages `q` until there is no room; how many, and what was returned then.
+// Puts messages `q` until there is no room, and returns how many and what was returned then.
 fn fills<R: Wait + Abort>(alloc: Global, rt: &R, wire: &mut WsWire<MemLink>) -> (u32, Room)
     requires { wire.old.wire.is_open ≡ true }
 {
@@ -100,7 +101,8 @@ fn sixteen_messages_wait_at_most(rt: HostRuntime) {
     same(&rt, fills(rt.alloc(), &rt, &mut w), (16, Room::Full));
 }
 
-// How many messages a wire takes whose write with this number fails, what it returns then, and how much was written.
+// The number of messages that a wire takes whose write with this number fails, what it returns then, and the number of
+// bytes written.
 fn until_it_fails<R: Wait + Abort>(
     alloc: Global,
     rt: &R,
@@ -127,7 +129,7 @@ fn a_write_that_fails_fails_its_wire(rt: HostRuntime) {
     same(&rt, third, (16, Room::Failed, 4));
 }
 
-// A wire that sends one message in writes of so many bytes; what it wrote.
+// What a wire writes that sends one message in writes of `take` bytes.
 fn sent<R: Wait + Abort>(alloc: Global, rt: &R, side: Side, take: usize) -> Vec<u8> {
     let mut w = quiet(rt, alloc, side, take, Vec::new(alloc));
     if let Room::Yes = w.room(rt) {
@@ -163,7 +165,7 @@ fn a_message_is_one_binary_frame(rt: HostRuntime) {
     );
 }
 
-// Whether there was room for one message more.
+// Returns whether there was room for one more message.
 fn puts<R: Wait + Abort>(alloc: Global, rt: &R, w: &mut WsWire<MemLink>, body: &[u8]) -> bool
     requires { w.old.wire.is_open ≡ true }
     ensures { result ≡ true → w.new.wire.is_open ≡ true }
@@ -194,7 +196,7 @@ fn each_frame_has_its_own_mask(rt: HostRuntime) {
     same(&rt, w.into_link().written(), wanted);
 }
 
-// Whether a server writes a message of so many bytes behind this header.
+// Returns whether a server writes a message of `length` bytes after this header.
 fn writes_length<R: Wait + Abort>(alloc: Global, rt: &R, length: usize, header: &[u8]) -> bool {
     let mut body = Vec::new(alloc);
     made(rt, body.resize(length, b'a'));

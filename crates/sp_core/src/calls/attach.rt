@@ -20,10 +20,10 @@ use sp_proto::Proto;
 use std::sync::Wait;
 use turn_lock::Stands;
 
-// The most pipes that are up, or down with a wire that was not taken.
+// The maximum number of pipes that are up, or down with a wire that was not taken.
 const MOST_PIPES: usize = 4_096;
 
-// The greatest number of a pipe.
+// The largest number of a pipe.
 const LAST_NUMBER: u32 = 2_147_483_647;
 
 /// A pipe (nng_pipe(5)) that went down, with its wire.
@@ -39,8 +39,8 @@ pub struct Gone<W> {
 
 impl<P: Proto, W: Wire> Core<P, W> {
     /// The wire, which was not used yet, becomes a pipe over the link with this place; returns its number, one more
-    /// than the pipes that came up before. Takes all memory that the pipe needs until its wire is taken. Refused by the
-    /// first cause of `AttachError` that stands; then the wire comes back as it was.
+    /// than the pipes that came up before. Takes all memory that the pipe needs until its wire is taken. Refused for
+    /// the first cause of `AttachError` that applies; then the wire is returned unchanged.
     pub fn attach<R: Wait>(
         &mut self,
         rt: &R,
@@ -59,7 +59,8 @@ impl<P: Proto, W: Wire> Core<P, W> {
         returned
     }
 
-    /// The net handed out the link with this place. Also after the close. Doesn't fail when out of memory.
+    /// Records that the net handed out the link with this place. May be called after the close. Doesn't fail when out
+    /// of memory.
     pub fn met<R: Wait>(&mut self, rt: &R, k: u32, place: u32)
         requires turn { MayTakeTurn ⟦<Core<P, W> as Stands>⟧.stands self.old k }
         ensures { TakesOneTurn ⟦<Core<P, W> as Stands>⟧.stands P.kind self.old self.new k (λ z h t. HasFirst (Met place) t) }
@@ -67,8 +68,8 @@ impl<P: Proto, W: Wire> Core<P, W> {
         self.note_link(rt, k);
     }
 
-    /// The link with this place was given back without having become a pipe. Also after the close. Doesn't fail when
-    /// out of memory.
+    /// Records that the link with this place was given back without having become a pipe. May be called after the
+    /// close. Doesn't fail when out of memory.
     pub fn missed<R: Wait>(&mut self, rt: &R, k: u32, place: u32, miss: Miss)
         requires turn { MayTakeTurn ⟦<Core<P, W> as Stands>⟧.stands self.old k }
         ensures { TakesOneTurn ⟦<Core<P, W> as Stands>⟧.stands P.kind self.old self.new k (λ z h t. HasFirst (NoUp place miss) t) }
@@ -76,7 +77,7 @@ impl<P: Proto, W: Wire> Core<P, W> {
         self.note_link(rt, k);
     }
 
-    // The turn in which a link was met or given back. The core keeps nothing of it.
+    // The turn in which a link was met or given back. The core itself keeps no record of it.
     fn note_link<R: Wait>(&mut self, rt: &R, k: u32)
         requires turn { MayTakeTurn ⟦<Core<P, W> as Stands>⟧.stands self.old k }
         ensures turn { NotesLink ⟦<Core<P, W> as Stands>⟧.stands self.old self.new k }
@@ -86,8 +87,8 @@ impl<P: Proto, W: Wire> Core<P, W> {
         self.settle(rt);
     }
 
-    /// Takes the wire of the pipe that went down first of those that were not taken; none where there is none. Also
-    /// after the close. Doesn't fail when out of memory.
+    /// Takes the wire of the pipe that went down first, of those that were not taken; `None` where there is none. May
+    /// be called after the close. Doesn't fail when out of memory.
     pub fn take_ended<R: Wait>(&mut self, rt: &R, k: u32) -> Option<Gone<W>>
         requires turn { MayTakeTurn ⟦<Core<P, W> as Stands>⟧.stands self.old k }
         ensures { TakesOneTurn ⟦<Core<P, W> as Stands>⟧.stands P.kind self.old self.new k (TookWire W.shown result) }
@@ -105,7 +106,7 @@ impl<P: Proto, W: Wire> Core<P, W> {
         })
     }
 
-    // The wire becomes a pipe, if it can, with all memory that this needs, while no send to many pipes is pending.
+    // Makes the wire a pipe, if that can be, with all memory that it needs, while no send to many pipes is pending.
     fn bring_up(&mut self, w: W) -> Result<PipeId, (AttachError, W)>
         requires owns { (t : Moment) × Owns P.ties P.room W.shown [] self.old t × NoFlood t }
         requires unused { IsUnused (W.shown w) }
@@ -127,7 +128,7 @@ impl<P: Proto, W: Wire> Core<P, W> {
         Ok(p)
     }
 
-    // Why no pipe may come up, other than being out of memory.
+    // The reason why no pipe may come up, other than being out of memory.
     fn why_not(&self) -> Option<AttachError>
         ensures told { TellsMayAttach P.ties P.room W.shown result self.now }
         ensures room { LeavesNumbers result self.now }

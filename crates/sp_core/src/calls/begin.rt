@@ -1,4 +1,4 @@
-//! Operations begin.
+//! The calls that begin operations.
 ghost use Rattle.std.specs.Prelude.{◌≡◌, ◌≢◌, [], Err, IfErr, IfOk, IfSome};
 ghost use Rattle.sp_history.specs.Moments.{Moment};
 ghost use Rattle.core_state.specs.Pendings.{IsAmong};
@@ -21,8 +21,8 @@ use turn_lock::Stands;
 
 impl<P: Proto, W: Wire> Core<P, W> {
     /// Begins a receive on the context, with a deadline or none. It ends with a message, or without one; its caller
-    /// collects it. Refused by the first of these causes: the socket is closed; the role doesn't receive, or has
-    /// no such contexts; the context isn't open; the protocol's state; every slot is taken. Doesn't fail when out of
+    /// collects it. Refused for the first of these causes: the socket is closed; the role doesn't receive, or has no
+    /// such contexts; the context isn't open; the protocol's state; every slot is taken. Doesn't fail when out of
     /// memory.
     pub fn begin_recv<R: Wait>(
         &mut self,
@@ -49,7 +49,7 @@ impl<P: Proto, W: Wire> Core<P, W> {
     }
 
     /// Begins a send on the context, with a deadline or none. Refused as `begin_recv` is, and when out of memory last;
-    /// then the message comes back as it was.
+    /// then the message is returned unchanged.
     pub fn begin_send<R: Wait>(
         &mut self,
         rt: &R,
@@ -98,7 +98,7 @@ impl<P: Proto, W: Wire> Core<P, W> {
         }
     }
 
-    // Records it where the pending operation is of the context and a caller has ended it.
+    // Records the end of the pending operation, if it is of the context and a caller has ended it.
     fn note_if_ended(&mut self, x: &PendingOperation, c: Ctx)
         requires { (t : Moment) × Owns P.ties P.room W.shown [] self.old t × IsAmong x.now (pending_of self.old) }
         ensures { SettlesTo P.ties P.room W.shown self.old self.new (FindsOf x.now c self.old self.new) }
@@ -129,7 +129,7 @@ impl<P: Proto, W: Wire> Core<P, W> {
         Ok(op)
     }
 
-    // Whether the socket is open and the protocol lets an operation begin.
+    // Returns whether the socket is open and the protocol lets an operation begin.
     fn may_begin(&self, c: Ctx, verb: Verb) -> Result<(), BeginError>
         ensures { TellsMayBegin P.ties P.room W.shown result c verb self.now }
     {
@@ -158,8 +158,8 @@ impl<P: Proto, W: Wire> Core<P, W> {
         None
     }
 
-    // The drawn operation begins, while no send to many pipes is pending. Where there is no memory for a send, its
-    // slot goes back, and so does its message.
+    // Begins the drawn operation, while no send to many pipes is pending. Where there is no memory for a send, its slot
+    // is free again and its message is returned.
     pub(crate) fn begin_drawn(
         &mut self,
         op: OpName,

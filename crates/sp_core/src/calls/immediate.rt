@@ -1,7 +1,7 @@
 //! The immediate receive: an operation is begun, won and collected in one turn, where a message is kept.
 //!
-//! Nothing is begun where nothing is kept. A caller that guessed the name of the operation may end it first; then the
-//! message stays, and the next try has another name.
+//! No operation is begun where nothing is kept. A caller that guessed the name of the operation may end it first; then
+//! the message stays, and the next try has another name.
 ghost use Rattle.std.specs.Prelude.{[]};
 ghost use Rattle.sp_history.specs.Moments.{Moment};
 ghost use Rattle.sp_core.specs.Owning.{Owns};
@@ -46,7 +46,7 @@ impl<P: Proto, W: Wire> Core<P, W> {
         unreachable!()
     }
 
-    // One try: none where a caller ended the receive first.
+    // Tries once. Returns `None` where a caller ended the receive first.
     fn try_once<R: Wait>(&mut self, rt: &R, c: Ctx) -> Result<Option<Message>, NowError>
         requires { (t : Moment) × Owns P.ties P.room W.shown [] self.old t × IsSettled t }
         ensures { TriesOnce P.ties P.room W.shown result c self.old self.new }

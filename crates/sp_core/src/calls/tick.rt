@@ -17,9 +17,9 @@ use std::sync::Wait;
 use turn_lock::Stands;
 
 impl<P: Proto, W: Wire> Core<P, W> {
-    /// The moment is `now`, in milliseconds: names the operations whose deadlines have come, by deadline and then by
-    /// slot, each once. A moment before the last tick counts as that. A closed socket names nothing. To end a named
-    /// operation is its callers' part (`expire` of the words). Doesn't fail when out of memory.
+    /// Ticks at `now`, in milliseconds: names the operations whose deadlines have come, by deadline and then by slot,
+    /// each once. A moment before the last tick counts as the last tick. A closed socket names nothing. The callers end
+    /// the named operations (`expire` of the words). Doesn't fail when out of memory.
     pub fn due<R: Wait>(&mut self, rt: &R, k: u32, now: Tick, out: &mut NameList)
         requires turn { MayTakeTurn ⟦<Core<P, W> as Stands>⟧.stands self.old k }
         requires room { slots_of self.old ≤ out.old.spare }
@@ -31,7 +31,7 @@ impl<P: Proto, W: Wire> Core<P, W> {
         self.settle(rt);
     }
 
-    // The moment comes, unless the socket is closed, while no send to many pipes is pending.
+    // Ticks, unless the socket is closed, while no send to many pipes is pending.
     fn tick(&mut self, now: Tick, out: &mut NameList)
         requires owns { (t : Moment) × Owns P.ties P.room W.shown [] self.old t × NoFlood t }
         requires room { slots_of self.old ≤ out.old.spare }

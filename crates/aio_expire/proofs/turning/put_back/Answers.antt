@@ -17,7 +17,7 @@ put-requires-clause-free c =
     let s = c.loop-pulled.by_slot in
     (last-free s c.pop.new.self.items c.in-Some.entry c.loop-pulled.invariant.own (subst (λ (es : List Deadline). AreApart s es) c.in-Some.ensures.items c.loop-pulled.invariant.apart)).1
 
--- a front without its last is a front
+-- a prefix without its last entry is a prefix
 shorter : (xs ys : List Deadline) (e : Deadline) → xs ++ e ∷ [] ≡ take (length (xs ++ e ∷ [])) ys → xs ≡ take (length xs) ys
 shorter xs ys e h =
     let n : length xs ≤ length (xs ++ e ∷ []) = omega (arith, length-append xs (e ∷ [])) in
@@ -51,7 +51,7 @@ loop-pulled-preserved c =
       room = c.pop.ensures.capacity ∙ i.room;
     }
 
--- what is left is a front
+-- what is left is a prefix
 front : (n k : ℕ) (xs ys : List Deadline) → xs ≡ take (length xs) ys → n ≤ length xs → length xs ≤ n → xs ≡ take n ys
 front n k xs ys e l m = let q : length xs ≡ n = omega (arith, l, m) in subst (λ (i : ℕ). xs ≡ take i ys) q e
 

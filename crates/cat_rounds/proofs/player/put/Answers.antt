@@ -5,7 +5,7 @@ use Rattle.sp_base.specs.Outside.{grown}
 use Rattle.cat_rounds.proofs.Silent.{append_nil}
 use Rattle.cat_rounds.proofs.player.put.Goals as goal
 
--- a piece without a byte is none
+-- a piece without a byte is empty
 nothing : (text : Option (List ℕ)) (piece : List ℕ) → length piece ≡ 0 → text ≡ grown text piece
 nothing None piece none = refl
 nothing (Some s) [] none = ap (λ (t : List ℕ). Some t) (sym (append_nil s))

@@ -23,7 +23,7 @@ setting_is : (g : Over) (c : After-new-2 g) → c.in-Ok-open.single.setting ≡ 
 setting_is g c =
     c.in-Ok-open.ensures.1 ∙ made_setting g.P.Proto.ties g.P.Proto.kind g.met.P.Proto.kinds c.args.machine c.in-Ok.machine c.args.planned.plan.role c.args.planned.dice c.in-Ok.is c.requires.starts
 
--- the run stands
+-- what holds of the run holds here
 begun : (g : Over) (c : After-new-2 g) → let net = g.N.Net.seen c.args.net.now in RunStands g.N.L.Link.seen (start_of net c.args.planned.plan c.args.planned.dice) c.in-Ok-open.single c.in-Ok-new.links.links c.new-2.result net false
 begun g c =
     plan_begins g.N.L.Link.seen (g.N.Net.seen c.args.net.now) c.in-Ok-open.single c.in-Ok-new.links.links c.args.planned.plan c.body_of.result c.new-2.result c.args.planned.dice c.in-Ok-open.ensures.0 (setting_is g c) (ap (λ (w : EndsView _). w.links) c.in-Ok-new.ensures) c.new-2.ensures c.requires.built c.body_of.ensures

@@ -6,6 +6,6 @@ use Rattle.proto_requests.specs.Spots.{holds}
 use Rattle.proto_live_requests.specs.LiveRequests.{is_live_on}
 use Rattle.proto_live_requests.proofs.dues.look_at_spots.Given as goal
 
--- one that stands there is still to come, or is looked at
+-- one that is there is still to come, or is looked at
 abbrev pub invariant-loop-s : goal.invariant-loop-s
 invariant-loop-s l = (q : ℕ) → list_any (holds (is_live_on q)) l.list ≡ true → (list_any (holds (is_live_on q)) (drop l.s-index l.list) ≡ true) ⊎ (covers l.due q ≡ true)

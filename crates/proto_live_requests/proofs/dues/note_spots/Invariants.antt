@@ -8,7 +8,7 @@ use Rattle.proto_live_requests.specs.Outs.{is_sent}
 use Rattle.proto_live_requests.specs.Dues.{waits_so}
 use Rattle.proto_live_requests.proofs.dues.note_spots.Given as goal
 
--- what stands there and waits for a reply is still to come, or is noted
+-- what is there and waits for a reply is still to come, or is recorded
 abbrev pub invariant-loop-s : goal.invariant-loop-s
 invariant-loop-s l =
     (c : ℕ) (o : LastOut) → list_any (holds (waits_so c o)) l.list ≡ true → (list_any (holds (waits_so c o)) (drop l.s-index l.list) ≡ true) ⊎ (covers_by l.outs (is_sent c o) ≡ true)

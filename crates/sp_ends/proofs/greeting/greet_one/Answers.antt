@@ -1,4 +1,4 @@
--- The link goes on, and what became of it decides.
+-- The greetings of the link go on, and their result decides.
 use Rattle.std.proofs.Common.{refl, sym, ap, ◌∙◌, subst, ℕ}
 use Rattle.sp_links.specs.declared.opening.Progress.{Progress}
 use Rattle.sp_links.specs.Going.{CameTo}

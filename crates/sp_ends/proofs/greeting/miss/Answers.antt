@@ -1,4 +1,4 @@
--- The link is in hand, and its turn notes the miss.
+-- The link is in hand, and its turn records the miss.
 use Rattle.std.proofs.Common.{refl, false}
 use Rattle.sp_ends.proofs.greeting.miss.Goals as goal
 use Rattle.sp_ends.proofs.Turns.{hand_opened, missed_stands, missed_quiet, missed_lanes, missed_dry}

@@ -1,4 +1,4 @@
--- One lane after the other is accepted.
+-- The lanes are accepted one after another.
 use Rattle.std.proofs.Common.{refl, sym, subst, arith}
 use Rattle.sp_lane.specs.Registry.{Registry}
 use Rattle.sp_ends.specs.NameSteps.{HasFewer}

@@ -8,7 +8,7 @@ use Rattle.sp_fakes.proofs.Given.{given-pass}
 use Rattle.sp_fakes.proofs.Left.{gives_pass}
 use Rattle.sp_fakes.proofs.link.skip.Goals as goal
 
--- no step stands behind the last one
+-- there is no step after the last one
 past : (script : List LinkStep) (at offset written : ℕ) → length script ≤ at → (step : LinkStep) → slice_get script at ≡ Some step → HasLeft step offset written
 past script at offset written le step e = let none = slice_get_past script at le in absurd cc
 
@@ -18,7 +18,7 @@ only script at offset written found lt is left step e =
     let same : found ≡ step = cc in
     subst (λ s. HasLeft s offset written) same left
 
--- a step that is spent has no bytes behind the first
+-- a step that is spent has no bytes after the first ones
 spent_bytes : (step : LinkStep) (offset written : ℕ) → IsSpent step offset written → length (step_bytes step) ≤ offset
 spent_bytes (steps.Bytes b) offset written is = is
 spent_bytes (steps.After n) offset written is = omega arith

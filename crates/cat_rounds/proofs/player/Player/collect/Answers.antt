@@ -55,7 +55,7 @@ collected g c =
     let took = c.in-Ended.ensures.turn in
     is_collected c.args.single.now c.collect.new.self took c.args.self.now c.args.now c.in-Some.op took.said.1.0 took.said.1.1 took.said.0 took.said.1.2 c.requires.stands (sym c.in-Some.ensures.value)
 
--- whether no survey is live
+-- no survey is live, or one is
 abbrev is_over : (g : Given.Over) → (c : goal.After-note g) → Bool
 is_over g c = is_survey_over c.args.self.now.last_send c.args.now
 

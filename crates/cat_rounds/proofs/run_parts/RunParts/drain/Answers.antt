@@ -72,7 +72,7 @@ one_false true false e = cc
 
 -- ---- Why it goes on, or ends
 
--- what the links had taken is noted
+-- what the links had taken is recorded
 abbrev still_now : (g : Over) (c : After-goes_on-waits g) → Stillness
 still_now g c = noted_still c.self.inside.still c.serve-served.result.taken c.args.now
 
@@ -82,7 +82,7 @@ noted g c = ap (λ (v : RunPartsView _). noted_still v.still c.serve-served.resu
 given : (g : Over) (c : After-goes_on-waits g) → c.gives_up-given_up.result ≡ gives_up c.self.inside.player.over c.self.inside.player.script.send_timeout (still_now g c) c.args.now
 given g c = c.gives_up-given_up.ensures ∙ ap (λ (s : Option Stillness). gives_up_at c.self.inside.player.over c.self.inside.player.script.send_timeout s c.args.now) c.note.ensures
 
--- a pipe has something left to write, and it isn't given up; or one of both
+-- a pipe has something left to write and the run isn't given up, or one of the two is false
 waits_so : (g : Over) (c : After-goes_on-waits g) → c.goes_on-waits.result ≡ true → (has_more c.serve-served.result ≡ true) × (gives_up c.self.inside.player.over c.self.inside.player.script.send_timeout (still_now g c) c.args.now ≡ false)
 waits_so g c e = let b = both_true _ _ (sym c.goes_on-waits.ensures ∙ e) in (b.0, sym (given g c) ∙ b.1)
 
@@ -97,7 +97,7 @@ cleared : (g : Over) (c : After-serve-served g) → has_more c.serve-served.resu
 cleared g c none =
     through c.serve-served.result c.self.inside.single c.serve-served.new.self c.self.inside.player c.args.now c.serve-served.ensures.turn (stands_in _ _ c.args.now c.self.view_is c.self.invariant c.requires.at) (free g c) (over g c) none
 
--- the tick is the last
+-- the tick is the last one
 now_is : (g : Over) (c : After-serve-served g) → c.args.now ≡ now (past_of c.serve-served.new.self.seen)
 now_is g c = (first g c c.args.now c.requires.at).stands.now_is
 

@@ -17,12 +17,12 @@ use Rattle.cat_rounds.proofs.run_parts.RunParts.round.Goals as goal
 
 -- ---- The tick, and the turn of the ends
 
--- what the round asks for, of the parts in use
+-- what the round requires of the parts in use
 asks : (g : Over) (c : After-tick g) → MayRound g.L.Link.seen (g.N.Net.seen c.args.net.now) (record { single = c.self.inside.single; ends = c.self.inside.ends; player = c.self.inside.player; inproc = c.self.inside.inproc; still = c.self.inside.still }) c.args.now
 asks g c =
     subst (λ (v : RunPartsView _). MayRound g.L.Link.seen (g.N.Net.seen c.args.net.now) v c.args.now) (sym c.self.view_is) (record { stands = c.requires.stands; may_tick = c.requires.may_tick; later = c.requires.later; late = c.requires.late })
 
--- the run behind its tick
+-- the run after its tick
 behind : (g : Over) (c : After-tick g) (start : Beginning) → LinksStand g.L.Link.seen start c.self.inside.single c.self.inside.ends.links (g.N.Net.seen c.args.net.now) false
     → HasTicked g.L.Link.seen start (g.N.Net.seen c.args.net.now) c.self.inside.single c.tick.new.self c.self.inside.ends.links c.self.inside.player c.args.now
 behind g c start links =

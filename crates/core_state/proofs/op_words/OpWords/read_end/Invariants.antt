@@ -2,7 +2,7 @@ use Rattle.aio_word.specs.Sight.{IsSameSeat}
 use Rattle.core_state.proofs.Readings.{Grew}
 use Rattle.core_state.proofs.op_words.OpWords.read_end.Given as goal
 
--- the seat has read of the slot what shows no end of the operation
+-- the seat has read of the slot only what shows no end of the operation
 abbrev pub invariant-loop : goal.invariant-loop
 invariant-loop g l =
     record {

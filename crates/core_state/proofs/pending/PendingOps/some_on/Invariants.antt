@@ -3,7 +3,7 @@ use Rattle.core_state.specs.Pendings.{IsNextIn, in_bucket, left_of, bucket_of}
 use Rattle.core_state.proofs.Walks.{AreLeft}
 use Rattle.core_state.proofs.pending.PendingOps.some_on.Given as goal
 
--- the next one stands in the bucket, and those of the context are not behind it yet
+-- the next operation is in the bucket, and all those of the context are still to come
 abbrev pub invariant-loop-next : goal.invariant-loop-next
 invariant-loop-next l =
     record {

@@ -2,7 +2,7 @@ use Rattle.std.proofs.Common.{◌≡◌}
 use Rattle.core_state.proofs.Packing.{PackedTo}
 use Rattle.core_state.proofs.pipes.Pipes.pack.Given as goal
 
--- so many places were not looked at
+-- this many places were not looked at
 abbrev pub invariant-loop-left : goal.invariant-loop-left
 invariant-loop-left g l =
     record {

@@ -14,7 +14,7 @@ returns-then-was_full-clause-down c =
     let is : Reply = record { alloc = was.alloc; role = was.role; raw = was.raw; options = was.options; ports = c.forget.new.self; kept = c.forget-2.new.self; waiting = c.pass_below.new.self; places = was.places } in
     down_ties was is t c.args.p why h c.forget.ensures c.forget-2.ensures c.pass_below.ensures.same (λ s. rw c.forget.ensures (other_stuck was.raw c.args.p was.ports.items was.waiting.replies is.waiting.replies c.pass_below.ensures.passed c.pass_below.ensures.none s)) refl (refl, refl, refl)
 
--- it was not full
+-- the pipe was not full
 isnt : (a b : Bool) → a ≡ not b → a ≡ false → b ≡ true
 isnt a true e f = refl
 isnt a false e f = absurd cc

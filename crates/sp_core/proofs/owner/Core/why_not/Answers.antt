@@ -3,7 +3,7 @@ use Rattle.std.specs.Prelude.{length, min}
 use Rattle.sp_core.proofs.Attached.{alone, some_up, all_pipes}
 use Rattle.sp_core.proofs.owner.Core.why_not.Goals as goal
 
--- by the sum as far as it fits: so many, or fewer
+-- by the sum, as far as it fits: exactly this many, or fewer
 few_by : (r a b d : ℕ) → r ≡ min (a + b) 18446744073709551615 → r < 4096 → b ≡ d → a + d < 4096
 few_by r a b d e f l = omega (arith, e, f, l)
 

@@ -1,4 +1,4 @@
--- The turn is that of the ends over links, with the names.
+-- The turn is the turn of the ends over links, with the names.
 use Rattle.std.proofs.Common.{ap, sym, subst}
 use Rattle.sp_ends.specs.EndViews.{Beginning, LinkEndsView, EndsView}
 use Rattle.sp_ends.specs.EndsTurns.{EndsTicked}

@@ -30,7 +30,7 @@ use Rattle.sp_ends.proofs.links.LinkEnds.dial_one.Goals as goal
 some_dialer : {a b : Dialer} → Some a ≡ Some b → a ≡ b
 some_dialer e = cc
 
--- ---- The dialer noted what the net said
+-- ---- The dialer recorded the net's result
 
 dialers_are : (g : Over) (c : After-dialed g) → c.self.inside.dialers.items ≡ c.args.self.now.dialers
 dialers_are g c = ap (λ (v : LinkEndsView g.row.L.Denot). v.dialers) c.self.view_is
@@ -46,7 +46,7 @@ noted : (g : Over) (c : After-dialed g) (same : Type 0) → (same → place_afte
 noted g c same none =
     dialed_at g.L.Link.seen c.dial-said.result c.args.now same c.args.i c.self.inside.dialers.items c.args.self.now.dialers c.index_mut.result.now c.dialed.new.self (dialers_are g c) (there g c) c.index_mut.ensures.value c.dialed.ensures none
 
--- the ends then
+-- the ends after that
 module _ (g : Over) (c : After-dialed g) where
   abbrev now_ends : LinkEndsView g.row.L.Denot
   now_ends = record { role = c.self.inside.role; dice = c.self.inside.dice; asked = c.self.inside.asked; listeners = c.self.inside.listeners.items; dialers = set c.self.inside.dialers.items c.args.i c.dialed.new.self; newcomers = c.self.inside.newcomers.items }

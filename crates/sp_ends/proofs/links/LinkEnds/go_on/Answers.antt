@@ -1,4 +1,4 @@
--- What stands goes from part to part.
+-- What holds is passed on from part to part.
 use Rattle.std.proofs.Common.{◌*◌, ap, ◌∙◌, arith, length}
 use Rattle.sp_ends.proofs.Turns.{quiet_both, lanes_both}
 use Rattle.sp_ends.proofs.TurnParts.{dialers_long, ends_both}

@@ -1,4 +1,4 @@
--- The first link is taken out, greeted, and is behind the others, or gone.
+-- The first link is taken out, greeted, and is then after the others, or gone.
 use Rattle.std.proofs.Common.{◌≡◌, refl, sym, ap, ◌∙◌, subst, List, ℕ, ◌+◌, ◌-◌, length, arith}
 use Rattle.std.specs.Prelude.{suc}
 use Rattle.sp_ends.specs.EndViews.{LinkEndsView}

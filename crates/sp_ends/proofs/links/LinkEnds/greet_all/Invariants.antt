@@ -1,4 +1,4 @@
--- Each link that was greeted is behind those that are still to be.
+-- Each link that was greeted is after those that are still to be greeted.
 use Rattle.std.proofs.Common.{ℕ, length, ◌-◌, ◌≤◌}
 use Rattle.sp_ends.specs.EndViews.{Beginning}
 use Rattle.sp_ends.specs.Freeing.{Frees}

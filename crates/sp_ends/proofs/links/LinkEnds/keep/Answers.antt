@@ -1,4 +1,4 @@
--- The link is counted, and stands behind the others.
+-- The link is counted, and comes after the others.
 use Rattle.std.proofs.Common.{◌<◌, refl, ap, subst, sym, arith, length, List}
 use Rattle.sp_ends.specs.EndViews.{LinkEndsView}
 use Rattle.sp_ends.specs.declared.newcomer.Newcomer.{Newcomer}

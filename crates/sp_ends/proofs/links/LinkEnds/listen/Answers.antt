@@ -1,4 +1,4 @@
--- There is room for one listener more, and its links; then the net listens.
+-- There is room for one more listener, and for its links; then the net listens.
 use Rattle.std.proofs.Common.{◌≡◌, ◌≤◌, ◌+◌, ◌++◌, ◌∷◌, [], ◌∙◌, ℕ, List, Bool, true, false, refl, sym, ap, subst, length, length-append, deque_capacity, arith, Result, Ok, Err, OnOk, is_err}
 use Rattle.sp_ends.specs.declared.listener.Listener.{Listener}
 use Rattle.sp_ends.specs.declared.newcomer.Newcomer.{Newcomer}
@@ -15,11 +15,11 @@ went_well : {A E : Type 0} (r : Result A E) (P : Type 0) → OnOk r P → is_err
 went_well (Ok a) P h e = h
 went_well (Err x) P h e = cc
 
--- the same ends, in other places of the memory
+-- the same ends, at other places in memory
 in_place : {L : Type 0} (e : LinkEndsView L) (ls : List Listener) (ns : List (Newcomer L)) → ls ≡ e.listeners → ns ≡ e.newcomers → record e { listeners = ls; newcomers = ns } ≡ e
 in_place e ls ns p q i = record e { listeners = p i; newcomers = q i }
 
--- with one listener more
+-- with one more listener
 grown_as : {L : Type 0} (e e' : LinkEndsView L) (l : Listener) (ls : List Listener) (ns : List (Newcomer L)) → ls ≡ e.listeners ++ l ∷ [] → ns ≡ e.newcomers → e ≡ e' → record e { listeners = ls; newcomers = ns } ≡ record e' { listeners = e'.listeners ++ l ∷ [] }
 grown_as e e' l ls ns p q is = first ∙ ap (λ (v : LinkEndsView _). record v { listeners = v.listeners ++ l ∷ [] }) is
   where

@@ -1,4 +1,4 @@
--- The first is counted no more.
+-- The first link is no longer counted.
 use Rattle.std.proofs.Common.{refl, subst, arith, List, ◌∷◌, sym, length, deque_capacity}
 use Rattle.sp_ends.specs.declared.newcomer.Newcomer.{Newcomer}
 use Rattle.sp_ends.specs.Listening.{AreCounted}

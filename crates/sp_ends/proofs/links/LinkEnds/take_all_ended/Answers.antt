@@ -1,4 +1,4 @@
--- One wire after the other is taken, until there is none.
+-- The wires are taken one after another, until there is none.
 use Rattle.std.proofs.Common.{refl, true, ◌∙◌}
 use Rattle.sp_ends.proofs.TurnedNames.{takes_same, takes_lost, takes_all}
 use Rattle.sp_ends.proofs.TakenAll.{none_untaken, off_stays}

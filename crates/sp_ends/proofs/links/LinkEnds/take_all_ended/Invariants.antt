@@ -1,4 +1,4 @@
--- What stands, and what the callers know.
+-- What holds, and what the callers know.
 use Rattle.std.proofs.Common.{◌≡◌}
 use Rattle.sp_ends.proofs.TurnedNames.{TakesSome}
 use Rattle.sp_ends.proofs.WholeTurn.{StillTakes}

@@ -1,4 +1,4 @@
--- The link that is left of the wire is back, and who had dialed it may dial again.
+-- The link that is left of the wire is back, and its dialer may dial again.
 use Rattle.std.proofs.Common.{refl, sym, ap, subst, List, ℕ, ◌<◌, length, arith}
 use Rattle.sp_ends.specs.declared.newcomer.Newcomer.{Newcomer}
 use Rattle.sp_ends.specs.RunLinks.{LinksStand}

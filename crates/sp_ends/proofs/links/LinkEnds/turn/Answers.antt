@@ -1,4 +1,4 @@
--- What stands goes from part to part.
+-- What holds is passed on from part to part.
 use Rattle.std.proofs.Common.{refl, true, false, ap, subst, ◌∙◌, arith, length, List}
 use Rattle.std.specs.List.{AllByRecursion}
 use Rattle.sp_history.specs.Past.{past_of}

@@ -1,4 +1,4 @@
--- One name after the other is asked.
+-- The names are asked one after another.
 use Rattle.std.proofs.Common.{◌<◌, ◌+◌, ◌*◌, ℕ, List, refl, sym, subst, ap, arith, length, add-one}
 use Rattle.sp_ends.proofs.Bringing.{BringTo, to_later, to_next, to_all, brings_before, fewer_none, fewer_both}
 use Rattle.sp_ends.proofs.ListReads.{at_index}

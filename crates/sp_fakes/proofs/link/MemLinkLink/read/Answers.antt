@@ -11,7 +11,7 @@ use Rattle.sp_fakes.proofs.Left.{gives_end_again, gives_bytes, gives_after, end_
 use Rattle.sp_fakes.proofs.Given.{given-pass, given-more}
 use Rattle.sp_fakes.proofs.link.MemLinkLink.read.Goals as goal
 
--- the step that stands at a place
+-- the step at a place
 stands : (script : List LinkStep) (at : ℕ) (found step : LinkStep) → at < length script → found ≡ get_or script at found → found ≡ step → slice_get script at ≡ Some step
 stands script at found step lt is e = slice_get_read script (length script) at found refl lt is ∙ ap Some e
 
@@ -23,7 +23,7 @@ passed script at offset step before e none is = given-pass script at offset step
 more : (script : List LinkStep) (at offset n : ℕ) (bytes buf before : List ℕ) → slice_get script at ≡ Some (steps.Bytes bytes) → take n buf ≡ take n (drop offset bytes) → given script at offset ≡ before → given script at (offset + n) ≡ before ++ take n buf
 more script at offset n bytes buf before e same is = given-more script at offset n (steps.Bytes bytes) e ∙ ap (λ t. t ++ take n (drop offset bytes)) is ∙ ap (λ t. before ++ t) (sym same)
 
--- bytes stand behind the first ones where the step has any left
+-- bytes follow the first ones where the step has any left
 left_bytes : (script : List LinkStep) (at offset written : ℕ) (bytes : List ℕ) → slice_get script at ≡ Some (steps.Bytes bytes) → ((step : LinkStep) → slice_get script at ≡ Some step → HasLeft step offset written) → offset < length bytes
 left_bytes script at offset written bytes e left = left (steps.Bytes bytes) e
 

@@ -1,4 +1,4 @@
--- A record is owned by nobody, so it may go to any thread.
+-- A record has no owner, so it may go to any thread.
 use denote.Param.Send.{IsSend, owning_send, sendable}
 use Rattle.sp_socket.specs.contracts.record.Record.{the_row, the_type}
 

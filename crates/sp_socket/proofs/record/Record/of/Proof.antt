@@ -1,4 +1,4 @@
--- `of` makes a value of no bytes, whose turns are read off the argument. Assumes `Logic`.
+-- `of` makes a value without bytes, whose turns are read off the argument. Assumes `Logic`.
 use Rattle.std.proofs.Common.{◌≡◌, List, [], ◌∷◌, refl}
 use mir.Syntax.{a_type, dcons, dnil, named}
 use mir.Val.{Val, vptr, vstruct, vcons, vunit, vnil}

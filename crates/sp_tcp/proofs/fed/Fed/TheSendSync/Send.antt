@@ -1,4 +1,4 @@
--- What was fed is owned by nobody, so it may go to any thread.
+-- What was fed has no owner, so it may go to any thread.
 use denote.Param.Send.{IsSend, owning_send}
 use Rattle.sp_tcp.specs.contracts.fed.Fed.{the_row, the_type}
 

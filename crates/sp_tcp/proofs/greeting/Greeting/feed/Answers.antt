@@ -21,7 +21,7 @@ shown view result piece peer seen role waits is_open fed view_is open_is peer_is
 compared : (peer piece : List ℕ) (seen n : ℕ) → length peer ≡ 8 → seen ≤ 8 → n ≡ min (length (take (8 - seen) (drop seen peer))) (length piece) → n ≡ min (8 - seen) (length piece)
 compared peer piece seen n long within is = omega (arith, is, length-take (8 - seen) (drop seen peer), length-drop seen peer, long, within)
 
--- the compared bytes behind those that came
+-- the bytes that are compared follow those that came
 same_prefix : (peer piece : List ℕ) (seen n : ℕ) → length peer ≡ 8 → seen ≤ 8 → n ≡ min (8 - seen) (length piece) → take n piece ≡ take n (take (8 - seen) (drop seen peer)) → take seen peer ++ take n piece ≡ take (seen + n) peer
 same_prefix peer piece seen n long within is same =
     part_more peer piece seen n (omega (arith, long, within)) (omega (arith, is)) (same ∙ take-take n (8 - seen) (drop seen peer) (omega (arith, is)))

@@ -1,4 +1,4 @@
--- It is owned by nobody, so it may go to any thread.
+-- It has no owner, so it may go to any thread.
 use denote.Param.Send.{IsSend, owning_send}
 use Rattle.sp_ws.specs.contracts.counts_at_start.CountsAtStart.{the_row, the_type}
 

@@ -1,4 +1,4 @@
--- What was fed is owned by nobody, so it may go to any thread.
+-- The log has no owner, so it may go to any thread.
 use denote.Param.Send.{IsSend, owning_send}
 use Rattle.sp_ws.specs.contracts.reads.ReadLog.{the_row, the_type}
 
