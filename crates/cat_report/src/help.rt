@@ -4,7 +4,7 @@ use cat_run::Status;
 use cat_run::real::Reason;
 use std::alloc::Global;
 
-/// What is printed for `--help` alone.
+/// The text for `--help` as the only word.
 pub const HELP: &str = "\
 Usage: nngcat ROLE ENDPOINT.. [OPTION]..
 Sends or receives messages over a scalability protocol; prints what it receives.
@@ -84,7 +84,7 @@ pub fn asked_text(words: &[String]) -> Option<&'static str> {
     }
 }
 
-/// Prints a text. `OutFault` where the output failed; then a line on standard error says so, and one says why.
+/// Prints a text. Returns `OutFault` where the output failed; then a line on standard error says so, and one says why.
 pub fn print_text<O: Print, E: Print>(out: &O, err: &E, alloc: Global, text: &str) -> Status {
     match out.write_all(text.as_bytes()) {
         Ok(()) => Status::Done,

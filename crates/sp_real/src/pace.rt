@@ -82,8 +82,8 @@ impl<R: Clock + Drop> RealPace<R> {
         self.latest
     }
 
-    // Waits for so many milliseconds, or until a socket is ready. Whether one is, or a link had more than it gave. Where
-    // the machine doesn't say which are ready, each is looked at after ten milliseconds at most.
+    // Waits for `most` milliseconds, or until a socket is ready. Returns whether one is, or a link had more than it
+    // gave. Where the machine can't say which are ready, each is looked at after ten milliseconds at most.
     fn wait(&mut self, most: u64) -> bool
         ensures { RestsOnly (pace_view self.old.left self.old.latest self.old.over) (pace_view self.new.left self.new.latest self.new.over) }
     {

@@ -6,18 +6,18 @@
 //! | `wakes peer 28355` | so does each of two peers that dialed a listener |
 //! | `wakes room 28755` | so does room on a link that took nothing more |
 //! | `prompt both 28395` | a link that was dialed and one that was accepted send small messages at once |
-//! | `marks 500 28435` | so many pairs of links, one after the other and beside a pair that stays, need few marks |
-//! | `alone 45000 42424` | so many dials to a port where nobody listens are refused: no socket is connected to itself |
-//! | `floods 400000 28475` | of so many bytes a link gives a part, then none once, and the next rest is none |
-//! | `under_way made 28515` | a connection that the machine doesn't make at once is under way, and made when it is reported |
+//! | `marks 500 28435` | 500 pairs of links, one after another and beside a pair that stays, need few marks |
+//! | `alone 45000 42424` | 45,000 dials to a port without a listener fail: no socket is connected to itself |
+//! | `floods 400000 28475` | of 400,000 bytes a link gives a part, then none once, and the next rest ends at once |
+//! | `under_way made 28515` | a connection that isn't made at once has begun, and is made when it is reported |
 //! | `leaves slow 28555` | a peer that takes its time, and sends a byte, gets all that was written |
 //! | `leaves sending 28795` | so does one that sends much more than a turn reads of it |
-//! | `leaves silent 28595` | two that don't end their streams are waited for, for two seconds in all, and counted |
-//! | `says in_use 28635` | why a listen failed: somebody listens there |
+//! | `leaves silent 28595` | two that don't end their streams are waited for, two seconds in all, and counted |
+//! | `says in_use 28635` | why a listen failed: the port has a listener |
 //! | `says elsewhere 28675` | why a listen failed: the address is another machine's |
 //!
-//! The last number is a port: what the line says goes on at the first of 30 ports that is free, from this one on; of
-//! `alone` and `under_way` at the port itself.
+//! The last number is a port: the line uses the first free one of 30 ports from it on; `alone` and `under_way` use the
+//! port itself.
 ghost use Rattle.std.specs.Prelude.{◌≡◌, ◌≤◌, ◌<◌, true, length, IsSome, IfSome};
 ghost use Rattle.std.specs.FinMap as map;
 ghost use Rattle.sp_base.specs.Addresses.{is_dialable, is_linked};
@@ -527,7 +527,8 @@ fn reads_slowly<R: Clock, S: Read + Write + Drop>(rt: &R, stream: S, sends: &[u8
     came
 }
 
-// Whether a peer that sends these bytes and reads slowly gets all that was written on a link that was given back.
+// Returns whether a peer that sends these bytes and reads slowly gets all that was written on a link that was given
+// back.
 fn leaves_whole<
     S: std::net::Net<Stream = TcpStream> + Clock + Threads + Sync,
     N: Finishes<P>,

@@ -93,7 +93,7 @@ fn pulls<W: Wire, R: Wait + Abort>(alloc: Global, rt: &R, wire: &mut W) -> Vec<u
     said
 }
 
-/// The same of a wire on this side over this link, which has read this already.
+/// The same for a wire on this side over this link, which has already read `rest`.
 pub(crate) fn pulled<R: Wait + Abort>(
     alloc: Global,
     rt: &R,

@@ -18,7 +18,7 @@ const CLIENT: Side = Side::Client { seed: 1 };
 /// What a quiet wire has room for: one read of its link, and four times a KiB.
 const FEW: usize = 20_480;
 
-// A bare frame of so many bytes `a`, with its length in eight bytes.
+// A bare frame of `size` bytes `a`, with its length in eight bytes.
 fn long_frame(rt: &impl Abort, alloc: Global, size: usize) -> Vec<u8> {
     let mut frame = made(rt, Vec::from_slice(alloc, b"\x82\x7f"));
     made(rt, frame.extend_from_slice(&(size as u64).to_be_bytes()));
@@ -71,7 +71,7 @@ fn many_messages_that_came_at_once_leave_little_room(rt: HostRuntime) {
     holds(&rt, wire.capacity() <= FEW);
 }
 
-// Whether a message of so many bytes goes out whole.
+// Returns whether a message of `size` bytes goes out whole.
 fn sends<R: Wait + Abort>(alloc: Global, rt: &R, wire: &mut WsWire<MemLink>, size: usize) -> bool {
     let mut body = Vec::new(alloc);
     made(rt, body.resize(size, b'a'));

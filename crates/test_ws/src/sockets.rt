@@ -147,10 +147,10 @@ fn each_message_of_a_long_row_comes(rt: HostRuntime) {
     same(&rt, socket.waiting().len(), 120_014);
 }
 
-/// What a server sends behind a long message: one in two frames with a ping between them, and one in one frame.
+/// What a server sends after a long message: one in two frames with a ping between them, and one in one frame.
 pub(crate) const BEHIND: &[u8] = b"\x02\x03abc\x89\x01p\x80\x02de\x82\x05Hello";
 
-// Feeds these bytes, and adds each message that comes then, in brackets; a long one as a dash.
+// Feeds these bytes, and adds each message that comes then, in brackets; a long one shown as a dash.
 fn add_given(rt: &impl Abort, socket: &mut MemorySocket, bytes: &[u8], said: &mut Vec<u8>) {
     is_ok(rt, socket.feed(bytes));
     for _ in 0..10u32 {
