@@ -25,7 +25,7 @@ use Rattle.sp_core.specs.declared.owner.Core.{Core}
 use Rattle.sp_core.specs.Moving.{with_entries}
 use Rattle.sp_core.specs.ServeSteps.{GivesNext, GivesOne}
 use Rattle.sp_core.specs.Serving.{AreEnds, HasOnlyEnded, Passes}
-use Rattle.sp_core.proofs.OtherPipes.{Leaves, HasOneMore, one_passes, passes_trans, served_more}
+use Rattle.sp_core.proofs.OtherPipes.{HasOneMore, one_passes, passes_trans, served_more}
 
 -- ---- What is wanted
 
