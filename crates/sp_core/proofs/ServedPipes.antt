@@ -23,12 +23,13 @@ sweeps_none t l e = subst (λ (x : Moment). SweptTo 0 0 x x) (sym is) (none t.z 
     none z caller before l = record {
       same = refl;
       served = λ q h k. let zero_is : 0 ≡ q = omega (arith, k) in let no : has (up before) q ≡ false = subst (λ (x : ℕ). has (up before) x ≡ false) zero_is (none_zero (record { z = z; caller = caller; before = before; turn = [] }) l) in absurd cc;
-      fresh = λ q h k. (refl, refl, refl, refl);
+      fresh = λ q h k. (refl, refl, refl, λ w. w);
       downs = omega arith;
       stalls = refl;
       few = omega arith;
       kinds = tt;
       most = λ p. (omega arith, omega arith, omega arith);
+      gives = λ g. g;
     }
 
 same_all : (s t u : Moment) → t ≡ (let y : Moment = record { z = s.z; caller = s.caller; before = s.before; turn = t.turn } in y) → u ≡ (let y : Moment = record { z = t.z; caller = t.caller; before = t.before; turn = u.turn } in y)
@@ -61,6 +62,7 @@ sweeps_on s t u last waiting p v h next visit = record {
   few = omega (arith, h.few, visit.few, next.above);
   kinds = visit.passes.kinds h.kinds;
   most = λ q. most_still p q t u (h.most q) visit.most (visit.passes.counts q);
+  gives = λ g. visit.gives (h.gives g);
 }
   where
     was : (q : ℕ) → has (up (past u)) q ≡ true → (has (up (past t)) q ≡ true) × ((p == q) ≡ true → v.up ≡ true)

@@ -28,6 +28,7 @@ use Rattle.sp_core.specs.Immediate.{ReceivedNow}
 use Rattle.sp_core.specs.Looking.{HasLooked, reads_of}
 use Rattle.sp_core.specs.Parts.{HasWires}
 use Rattle.sp_core.specs.Serving.{IsServeTurn, ServedBy}
+use Rattle.sp_core.specs.Waiting.{GivesFirst}
 use Rattle.sp_core.specs.Standing.{StandsFor, BeganBy, began, core_setting}
 use Rattle.core_state.specs.Wires.{numbers_of}
 
@@ -80,10 +81,11 @@ ReceivesNow r k c old new z h t =
 abbrev pub AttachesWire : {W : Type 0} → (W → WireView) → Result ℕ (AttachError × W) → W → ℕ → Setting → List (Turn Entry) → Turn Entry → Type 0
 AttachesWire shown r w place z h t = AttachedBy (attached r) z h t place (numbers_of (shown w).name)
 
--- each pipe was flushed and swept, and the result has the counts
+-- each pipe was flushed and swept, no frame came while a receive waited for what a queue kept, and the result has the
+-- counts
 abbrev pub ServesPipes : Served → Setting → List (Turn Entry) → Turn Entry → Type 0
 ServesPipes r z h t =
-    IsSwept z (past_of h) t × AreFlushed (past_of h) t × IsServeTurn t × ServedBy r t × (r.up ≡ length (up (past_of (h ++ t ∷ []))))
+    IsSwept z (past_of h) t × AreFlushed (past_of h) t × IsServeTurn t × ServedBy r t × (r.up ≡ length (up (past_of (h ++ t ∷ [])))) × GivesFirst z (past_of h) t
 
 -- the context was shut, or why not
 abbrev pub ClosesCtx : Result (Unit {0}) CtxError → ℕ → Setting → List (Turn Entry) → Turn Entry → Type 0

@@ -3,7 +3,7 @@ use Rattle.sp_core.specs.KeptWords.{KeepsWords}
 use Rattle.sp_core.specs.Attaching.{MayAttach, RefusedAttach}
 use Rattle.core_state.specs.Pipes.{PipesStand, IsPipeAt}
 use Rattle.sp_core.specs.Owning.{Owns}
-use Rattle.sp_core.specs.Serving.{FlushTold, GotTo, IsFresh, IsReady, IsUnpulled, PulledAll, SweptAll, VisitedTo}
+use Rattle.sp_core.specs.Serving.{FlushTold, GotTo, HasOnlyEnded, IsFresh, IsReady, IsUnpulled, PulledAll, SweptAll, VisitedTo}
 use Rattle.core_state.specs.Wires.{numbers_of}
 use Rattle.core_state.specs.declared.pipes.Flushed.{Flushed}
 use Rattle.core_state.specs.declared.pipes.Flushed.TheVariants as flushed
@@ -16,10 +16,14 @@ use Rattle.sp_core.specs.declared.calls.serve.Visit.{Visit}
 use Rattle.sp_history.specs.Kept.{wanted}
 use Rattle.sp_history.specs.Moments.{Moment, also, past}
 use Rattle.sp_history.specs.Past.{ups}
-use Rattle.sp_history.specs.declared.entry.Entry.TheVariants.{Frame, Up}
+use Rattle.sp_base.specs.declared.OpName.{OpName}
+use Rattle.sp_core.specs.Cores.{words_of}
+use Rattle.sp_history.specs.declared.entry.Ending.{Ending}
+use Rattle.sp_history.specs.declared.entry.Entry.TheVariants.{End, Frame, Up}
 use Rattle.sp_msg.specs.Views.{MessageView, WireView}
 use Rattle.sp_proto.specs.Machines.{NoFlood}
-use Rattle.std.specs.Prelude.{⊤, Bool, MatchOption, MatchResult, None, Option, Result, [], length, true, ℕ, ◌+◌, ◌-◌, ◌<◌, ◌^◌, ◌≡◌}
+use Rattle.sp_core.specs.Waiting.{GivesAll, HasNoneWaiting}
+use Rattle.std.specs.Prelude.{⊤, Bool, MatchOption, MatchResult, None, Option, Result, [], length, true, false, ℕ, ◌+◌, ◌-◌, ◌<◌, ◌^◌, ◌≡◌}
 
 -- the wire has become a pipe, or why not
 abbrev pub BringsUp : {P W : Type 0} → (P → Moment → Type 0) → (P → ℕ) → (W → WireView) → Result ℕ (AttachError × W) → W → Core P W → Core P W → Type 0
@@ -70,6 +74,22 @@ MayPull ties room shown i p old =
 abbrev pub PullsOnce : {P W : Type 0} → (P → Moment → Type 0) → (P → ℕ) → (W → WireView) → Got → ℕ → ℕ → Core P W → Core P W → Type 0
 PullsOnce ties room shown r i p old new =
     KeepsWords old new ((t : Moment) → Owns ties room shown [] old t → IsPipeAt old.pipes i p → wanted t.z (past t) p ≡ true → (u : Moment) × GotTo r p t u × Owns ties room shown [] new u × StaysPulled r i p new.pipes)
+
+-- one receive was given what is kept for it, unless a caller had ended it, and less is left to be done
+pub record GivesOne {P W : Type 0} (ties : P → Moment → Type 0) (room measure : P → ℕ) (shown : W → WireView) (old new : Core P W) : Type 0 where
+  pub does : (t : Moment) → Owns ties room shown [] old t → (op : OpName) × (e : Ending) × Owns ties room shown [] new (also t (End op e))
+  pub words : words_of new ≡ words_of old
+  pub left : measure new.proto < measure old.proto
+
+-- the same, or none waits
+abbrev pub GivesNext : {P W : Type 0} → (P → Moment → Type 0) → (P → ℕ) → (P → ℕ) → (W → WireView) → Bool → Core P W → Core P W → Type 0
+GivesNext ties room measure shown true old new = GivesOne ties room measure shown old new
+GivesNext ties room measure shown false old new = KeepsWords old new ((t : Moment) → Owns ties room shown [] old t → Owns ties room shown [] new t × HasNoneWaiting t)
+
+-- receives were given what is kept for them, unless callers had ended them
+abbrev pub GivesKept : {P W : Type 0} → (P → Moment → Type 0) → (P → ℕ) → (W → WireView) → Core P W → Core P W → Type 0
+GivesKept ties room shown old new =
+    KeepsWords old new ((t : Moment) → Owns ties room shown [] old t → (u : Moment) × HasOnlyEnded t u × Owns ties room shown [] new u × GivesAll t u)
 
 -- the pipe at this place was not pulled from in this turn
 abbrev pub MayPullAll : {P W : Type 0} → (P → Moment → Type 0) → (P → ℕ) → (W → WireView) → ℕ → ℕ → Core P W → Type 0

@@ -249,10 +249,21 @@ pub fn respondent_plays<R: AllocGlobal + Wait + Abort>(
     );
 }
 
-/// Checks the same over a surveyor, raw or not.
-pub fn surveyor_plays<R: AllocGlobal + Wait + Abort>(rt: &R, raw: bool, calls: &str, wires: &str) {
-    match Survey::new(rt.alloc(), Options::usual(Role::Surveyor, 0), raw) {
+/// Checks the same over a surveyor with these options.
+pub fn surveyor_plays_with<R: AllocGlobal + Wait + Abort>(
+    rt: &R,
+    options: Options,
+    raw: bool,
+    calls: &str,
+    wires: &str,
+) {
+    match Survey::new(rt.alloc(), options, raw) {
         Ok(machine) => plays(rt, machine, 16, calls, wires),
         Err(_) => fails(rt),
     }
+}
+
+/// Checks the same over a surveyor, raw or not.
+pub fn surveyor_plays<R: AllocGlobal + Wait + Abort>(rt: &R, raw: bool, calls: &str, wires: &str) {
+    surveyor_plays_with(rt, Options::usual(Role::Surveyor, 0), raw, calls, wires);
 }
