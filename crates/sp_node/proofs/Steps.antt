@@ -50,7 +50,7 @@ use Rattle.sp_ends.proofs.EndsStay.{linkless, none_sub, same_now, same_dry}
 use Rattle.sp_ends.specs.EndsTurns.{EndsTicked}
 use Rattle.sp_ends.proofs.TickedEnds.{ticked}
 use Rattle.sp_node.specs.Nodes.{NodeView, NodeStands, IsLater, GoesOn, TicksFirst}
-use Rattle.sp_node.specs.Waits.{WaitsFor}
+use Rattle.sp_node.specs.Waits.{WaitsFor, Flushes}
 use Rattle.sp_node.proofs.Entries.{append_nil, keeps_all, adds_one, none_settling, settling_silent, none_around, now_stays, closed_stays, caller_stays, took_stays, at_new, sound_new}
 
 -- ---- Entries that leave a node as it is
@@ -328,3 +328,10 @@ closed_none false totals callers h t is c = closing_none callers (past_of h) t (
 pub closes_on : {L : Type 0} (seen : L → LinkView) (start : Beginning) (net : NetView) (totals : Totals) (s s' : SingleView) (e : LinkEndsView L) (t : ℕ) (dry closed : Bool) → TookOne (λ z h u. ClosedBy totals z.callers h u) s s' → is_closed (past_of s'.seen) ≡ true → NodeStands seen start s e net t dry closed → NodeStands seen start s' e net t dry true
 closes_on seen start net totals s s' e t dry closed took is was =
     but_closed s s' took seen start net e t dry closed true (closed_none (is_closed (past_of s.seen)) totals s.setting.callers s.seen took.turn refl took.said) is was
+
+-- ---- What waits to be written
+
+-- the same where the node went on before
+pub flushes_later : (b : Bool) (s0 s1 s2 : SingleView) → IsLater s0 s1 → Flushes b s1 s2 → Flushes b s0 s2
+flushes_later b s0 s1 s2 x f =
+    record { before = f.before; later = later_then s0 s1 f.before x f.later; served = f.served; last = f.last; waits = f.waits }

@@ -1,16 +1,22 @@
 -- What calls that wait do.
-use Rattle.std.specs.Prelude.{ℕ, ◌+◌, ◌-◌, ◌^◌, min, Option, Some, None, Result, Ok, Err}
+use Rattle.std.specs.Prelude.{◌≡◌, ◌⊎◌, ◌==◌, true, ℕ, ◌+◌, ◌-◌, ◌^◌, Bool, List, min, Option, Some, None, Result, Ok, Err}
+use Rattle.turn_lock.specs.declared.turn.Turn.{Turn}
 use Rattle.sp_base.specs.declared.OpName.{OpName}
 use Rattle.sp_msg.specs.Views.{MessageView}
 use Rattle.sp_proto.specs.Kinds.{text_of}
 use Rattle.sp_history.specs.declared.entry.RecordedAct.{RecordedAct}
 use Rattle.sp_history.specs.declared.entry.RecordedAct.TheVariants as acts
 use Rattle.sp_history.specs.declared.entry.Cause.{Cause}
+use Rattle.sp_history.specs.declared.entry.Entry.{Entry}
+use Rattle.sp_history.specs.declared.entry.Totals.{Totals}
 use Rattle.sp_history.specs.Past.{past_of, now}
 use Rattle.core_state.specs.declared.outcome.Outcome.{Outcome}
 use Rattle.core_state.specs.declared.outcome.Outcome.TheVariants as outcomes
 use Rattle.core_state.specs.declared.causes.BeginError.{BeginError}
+use Rattle.core_state.specs.declared.served.Served.{Served}
 use Rattle.sp_core.specs.declared.calls.collect.Collected.TheVariants as collected
+use Rattle.sp_core.specs.CallSays.{ServesPipes}
+use Rattle.sp_core.specs.Closing.{ClosedBy}
 use Rattle.sp_core.specs.Standing.{BeganBy}
 use Rattle.sp_core.specs.Collecting.{CollectedBy}
 use Rattle.sp_socket.specs.Singles.{SingleView, TookOne}
@@ -50,16 +56,10 @@ abbrev pub EndsFor : RecordedAct → Option ℕ → Cause → SingleView → Sin
 EndsFor act time cause old new =
     (by : ℕ) × (back : Option MessageView) × Performs act time (outcomes.Gone cause by back) old new
 
--- it ended as an operation of the other kind does
-abbrev pub EndsAsOther : RecordedAct → Option ℕ → SingleView → SingleView → Type 0
-EndsAsOther acts.Recv time old new = Performs acts.Recv time outcomes.Sent old new
-EndsAsOther (acts.Send m) time old new = (back : MessageView) × Performs (acts.Send m) time (outcomes.Received back) old new
-
 -- why a call that waits came back without success
 abbrev pub FailsFor : WaitError → RecordedAct → Option ℕ → SingleView → SingleView → Type 0
 FailsFor (errors.Begin why) act time old new = Refuses act time why old new
 FailsFor (errors.Gone cause) act time old new = EndsFor act time cause old new
-FailsFor errors.Other act time old new = EndsAsOther act time old new
 
 abbrev pub Receives : {L : Type 0} → Result MessageView WaitError → Option ℕ → NodeView L → NodeView L → Type 0
 Receives (Ok m) time old new = Performs acts.Recv time (outcomes.Received m) old.single new.single
@@ -68,3 +68,27 @@ Receives (Err e) time old new = FailsFor e acts.Recv time old.single new.single
 abbrev pub Sends : {L : Type 0} → Result (Unit {0}) WaitError → MessageView → Option ℕ → NodeView L → NodeView L → Type 0
 Sends (Ok done) m time old new = Performs (acts.Send (text_of m)) time outcomes.Sent old.single new.single
 Sends (Err e) m time old new = FailsFor e (acts.Send (text_of m)) time old.single new.single
+
+-- ---- What waits to be written
+
+-- the last turn serves the pipes, and this says whether none had something left to write
+pub record Flushes (is_flushed : Bool) (old new : SingleView) : Type 0 where
+  pub before : SingleView
+  pub later : IsLater old before
+  pub served : Served
+  pub last : TookOne (λ z h t. ServesPipes served z h t) before new
+  pub waits : is_flushed ≡ (served.waiting == 0)
+
+-- the last turn served the pipes, or the node is closed
+abbrev pub ServesOrCloses : {L : Type 0} → NodeView L → NodeView L → Type 0
+ServesOrCloses old new =
+    (new.closed ≡ true) ⊎ ((is_flushed : Bool) × Flushes is_flushed old.single new.single)
+
+-- it was flushed, and closed with these totals in the turn after that, which is the last of the record
+pub record EndsFlushed (totals : Totals) (old : SingleView) (record_ : List (Turn Entry)) : Type 0 where
+  pub is_flushed : Bool
+  pub flushed : SingleView
+  pub flushes : Flushes is_flushed old flushed
+  pub closed : SingleView
+  pub closes : TookOne (λ z h t. ClosedBy totals z.callers h t) flushed closed
+  pub whole : record_ ≡ closed.seen

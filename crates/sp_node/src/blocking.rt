@@ -33,13 +33,14 @@ impl<R: Wait, P: Proto, L: Link, N: Net<L = L>, C: Pace> Node<'_, R, P, L, N, C>
                     by: _,
                     back: _,
                 } => Err(WaitError::Gone(cause)),
-                Outcome::Sent => Err(WaitError::Other),
+                Outcome::Sent => unreachable!(),
             },
         }
     }
 
     /// Sends a message, and waits until a pipe has it, for `time` milliseconds or without end (nng_sendmsg(3)). What is on a
-    /// pipe is written as later calls go round. Fails as `recv` does; a message that isn't sent is let go.
+    /// pipe is written as later calls go round, `flush` and `finish` among them. Fails as `recv` does; a message that
+    /// isn't sent is let go.
     pub fn send(&mut self, m: Message, time: Option<u64>) -> Result<(), WaitError>
         ensures sent { Sends result m time self.old self.new }
         ensures goes_on { GoesOn self.old self.new }
@@ -54,7 +55,7 @@ impl<R: Wait, P: Proto, L: Link, N: Net<L = L>, C: Pace> Node<'_, R, P, L, N, C>
                     by: _,
                     back: _,
                 } => Err(WaitError::Gone(cause)),
-                Outcome::Received(_) => Err(WaitError::Other),
+                Outcome::Received(_) => unreachable!(),
             },
         }
     }

@@ -1,6 +1,7 @@
 //! Why calls of a node are refused.
 use sp_base::SpError;
 use sp_socket::{BeginError, Cause};
+use std::error::Error;
 use std::fmt;
 
 /// Why no end was added (nng_listen(3), nng_dial(3)). Its text is that of nng_strerror(3), and where the text of an
@@ -28,8 +29,6 @@ pub enum WaitError {
     Begin(BeginError),
     /// What was begun ended so.
     Gone(Cause),
-    /// What was begun ended as an operation of the other kind does; no history has this.
-    Other,
 }
 
 impl fmt::Display for EndsError {
@@ -44,16 +43,19 @@ impl fmt::Display for EndsError {
     }
 }
 
+impl Error for EndsError {}
+
 impl fmt::Display for WaitError {
     fn fmt<W: fmt::Write>(&self, f: &mut fmt::Formatter<W>) -> fmt::Result {
         let why = match self {
             WaitError::Begin(why) => SpError::from(*why),
             WaitError::Gone(cause) => SpError::from(*cause),
-            WaitError::Other => SpError::State,
         };
         f.write_str(text_of(why))
     }
 }
+
+impl Error for WaitError {}
 
 // The text of an error (nng_strerror(3)).
 fn text_of(why: SpError) -> &'static str {

@@ -10,7 +10,7 @@
 //! be one that was begun and not collected, and `open`, whose machine is to be as good as new.
 //!
 //! To read: `ends` (before the first turn), `node` (what a node is, and its turn), `calls` (operations), `blocking` (calls
-//! that wait), `finish`.
+//! that wait), `finish` (what waits is written, and the end).
 #![tactic(auto)]
 
 mod blocking;

@@ -1,8 +1,9 @@
 //! What a node is, and its turn.
-ghost use Rattle.std.specs.Prelude.{◌≡◌, ◌≤◌, true, false};
+ghost use Rattle.std.specs.Prelude.{◌≡◌, ◌≤◌, ◌==◌, true, false};
 ghost use Rattle.sp_core.specs.Closing.{ClosedBy};
 ghost use Rattle.sp_socket.specs.Singles.{TookOne};
 ghost use Rattle.sp_node.specs.Nodes.{GoesOn, TicksFirst, TicksOrCloses};
+ghost use Rattle.sp_node.specs.Waits.{Flushes, ServesOrCloses};
 
 use sp_base::{Link, Net, Pace, Paced, Tick};
 use sp_ends::Ends;
@@ -55,6 +56,7 @@ impl<R: Wait, P: Proto, L: Link, N: Net<L = L>, C: Pace> Node<'_, R, P, L, N, C>
     pub fn turn(&mut self)
         ensures goes_on { GoesOn self.old self.new }
         ensures ticks { TicksOrCloses self.old self.new }
+        ensures serves { ServesOrCloses self.old self.new }
     {
         match self.clock() {
             None => {
@@ -68,6 +70,7 @@ impl<R: Wait, P: Proto, L: Link, N: Net<L = L>, C: Pace> Node<'_, R, P, L, N, C>
     /// `send`.
     pub fn go(&mut self)
         ensures goes_on { GoesOn self.old self.new }
+        ensures serves { ServesOrCloses self.old self.new }
     {
         if self.may_serve() {
             let _ = self.serve();
@@ -89,7 +92,7 @@ impl<R: Wait, P: Proto, L: Link, N: Net<L = L>, C: Pace> Node<'_, R, P, L, N, C>
     }
 
     // Asks the clock; none where it has no turn left.
-    fn clock(&mut self) -> Option<Tick>
+    pub(crate) fn clock(&mut self) -> Option<Tick>
         ensures same { self.new ≡ self.old }
     {
         match self.pace.turn(self.moved) {
@@ -111,6 +114,7 @@ impl<R: Wait, P: Proto, L: Link, N: Net<L = L>, C: Pace> Node<'_, R, P, L, N, C>
     fn turn_at(&mut self, at: Tick)
         ensures goes_on { GoesOn self.old self.new }
         ensures ticks { TicksOrCloses self.old self.new }
+        ensures serves { ServesOrCloses self.old self.new }
     {
         if !self.is_closed() {
             let now = self.later(at);
@@ -127,7 +131,7 @@ impl<R: Wait, P: Proto, L: Link, N: Net<L = L>, C: Pace> Node<'_, R, P, L, N, C>
     }
 
     // The later of this tick and the last.
-    fn later(&self, at: Tick) -> Tick
+    pub(crate) fn later(&self, at: Tick) -> Tick
         ensures { self.now.latest ≤ result }
     {
         if self.latest.0 < at.0 {
@@ -145,7 +149,7 @@ impl<R: Wait, P: Proto, L: Link, N: Net<L = L>, C: Pace> Node<'_, R, P, L, N, C>
     }
 
     // The tick, and a turn of the ends.
-    fn tick_and_turn(&mut self, now: Tick)
+    pub(crate) fn tick_and_turn(&mut self, now: Tick)
         requires open_ { self.old.closed ≡ false }
         requires later { self.old.latest ≤ now }
         ensures goes_on { GoesOn self.old self.new }
@@ -165,8 +169,9 @@ impl<R: Wait, P: Proto, L: Link, N: Net<L = L>, C: Pace> Node<'_, R, P, L, N, C>
     }
 
     // Serves the pipes.
-    fn serve(&mut self) -> Served
+    pub(crate) fn serve(&mut self) -> Served
         ensures goes_on { GoesOn self.old self.new }
+        ensures flushes { Flushes (result.waiting == 0) self.old.single self.new.single }
     {
         let served = self.single.serve(self.rt);
         self.moved = served.moved;
