@@ -1,3 +1,4 @@
+pub mod RoomyPipes
 pub mod Orphaned
 pub mod OwnedRequests
 pub mod Requested

@@ -1,24 +1,38 @@
 //! The machine of req.
-ghost use Rattle.std.specs.Prelude.{◌≡◌, ◌≢◌, ◌≤◌, ◌<◌, ◌+◌, ◌-◌, ◌%◌, ◌==◌, ◌++◌, ◌&&◌, ◌||◌, ℕ, List, [], ◌∷◌, Option, None, Some, IfErr, IfOk, IfSome, IfNone, OnOk, OnErr, false, true, map, find, drop, length, is_some};
+ghost use Rattle.std.specs.Prelude.{◌≡◌, ◌≢◌, ◌≤◌, ◌<◌, ◌+◌, ◌-◌, ◌%◌, ◌==◌, ◌++◌, ◌&&◌, ◌||◌, ℕ, List, [], ◌∷◌, Option, None, Some, Err, IfErr, IfOk, IfSome, IfNone, IsTrue, MatchOption, OnOk, OnErr, false, true, map, find, drop, length, is_some};
 ghost use Rattle.std.specs.Option.{option_map};
 ghost use Rattle.std.specs.List.{list_any};
 ghost use Rattle.sp_base.specs.declared.OpName.{OpName};
 ghost use Rattle.sp_history.specs.declared.entry.Entry.TheVariants.{Begin, Frame};
-ghost use Rattle.sp_history.specs.Past.{up};
+ghost use Rattle.sp_history.specs.declared.entry.Entry.TheVariants as entries;
+ghost use Rattle.sp_history.specs.declared.entry.RecordedMessage.{RecordedMessage as Text};
+ghost use Rattle.sp_history.specs.declared.entry.WireNumbers.{WireNumbers};
+ghost use Rattle.sp_history.specs.declared.entry.Why.{Why};
+ghost use Rattle.sp_history.specs.declared.entry.Cause.{Cause as HistoryCause};
+ghost use Rattle.sp_history.specs.declared.entry.Totals.{Totals};
+ghost use Rattle.sp_history.specs.declared.entry.Ending.TheVariants.{Won, Gone};
+ghost use Rattle.sp_history.specs.declared.entry.Completion.TheVariants.{Received, Sent};
+ghost use Rattle.sp_history.specs.declared.entry.ContextChange.TheVariants as gate;
+ghost use Rattle.sp_history.specs.declared.parts.Begun.{Begun};
+ghost use Rattle.sp_history.specs.declared.parts.LiveRequest.{LiveRequest};
+ghost use Rattle.sp_history.specs.Setting.{is_pair, floods};
+ghost use Rattle.sp_history.specs.Past.{pending, up};
+ghost use Rattle.sp_history.specs.Requests.{wire_of};
 ghost use Rattle.sp_history.specs.Legal.{Calm};
-ghost use Rattle.sp_history.specs.Moments.{Moment, Lawful, past, also};
-ghost use Rattle.sp_proto.specs.Machines.{IsOffered, Frames, NoFlood, Takes};
+ghost use Rattle.sp_history.specs.Moments.{Moment, Lawful, past, also, next};
+ghost use Rattle.sp_proto.specs.Machines.{CanAgain, CanDrop, CanGive, CanSend, IsOffered, Frames, NoFlood, Takes, message_of};
 ghost use Rattle.sp_history.specs.Options.{Fits};
 ghost use Rattle.sp_history.specs.Lists.{word, head_of};
 ghost use Rattle.sp_history.specs.Requests.{next_number};
 ghost use Rattle.sp_msg.specs.Views.{wire_text};
-ghost use Rattle.sp_proto.specs.Kinds.{Starts, entry_act};
+ghost use Rattle.sp_proto.specs.Kinds.{Starts, entry_act, text_of};
 ghost use Rattle.proto_live_requests.specs.declared.live.KeptReply.{KeptReply as KeptReplyType};
 ghost use Rattle.proto_reqrep.specs.declared.req.Asking.{Asking as AskingType};
 ghost use Rattle.proto_live_requests.specs.Dues.{StaySeen};
 ghost use Rattle.proto_live_requests.specs.LiveRequests.{OnePerContext, is_live_on, without_live, reply_in, with_reply, NotesOut, with_out};
 ghost use Rattle.proto_reqrep.specs.Reqs.{Ties, req_kind, orphaned, free_number, gets, answers, ready_on, AreReady, IsReply, Asks, KeepsRaw, ask_state, work_left, IsNextPipe, roomy_of, AsksNot, GivesRaw, GivesReply, IsLed, sent_now, is_raw, places_left};
 ghost use Rattle.proto_requests.specs.Ids.{number_after};
+ghost use Rattle.proto_reqrep.specs.Roomy.{KeepsAll, DropsOnly, KeepsRoomy, DropsRoomy, HasServed};
 
 use proto_live_requests::dues::Dues;
 use proto_live_requests::live::{KeptReply, Live};
@@ -149,14 +163,29 @@ fn leave_behind(waiting: &mut Waits<Asking>, c: Ctx)
 
 // ---- Pipes
 
+// Makes the pipe count as roomy, unless there is no memory for it.
+fn add_roomy(roomy: &mut BTreeSet<u32>, p: PipeId)
+    ensures { KeepsAll roomy.old.keys roomy.new.keys }
+{
+    let _ = roomy.insert(p.0);
+}
+
+// Makes the pipe no longer count as roomy.
+fn drop_roomy(roomy: &mut BTreeSet<u32>, p: PipeId)
+    ensures { DropsOnly p roomy.old.keys roomy.new.keys }
+{
+    let _ = roomy.remove(&p.0);
+}
+
 // Makes the next pipe after this one count as roomy, if one is up.
 fn try_again(ports: &mut Ports, roomy: &mut BTreeSet<u32>, last: &mut PipeId)
-    ensures { ports.new ≡ ports.old }
+    ensures ports { ports.new ≡ ports.old }
+    ensures roomy { KeepsAll roomy.old.keys roomy.new.keys }
 {
     match ports.free_port(*last) {
         None => {}
         Some(p) => {
-            let _ = roomy.insert(p.0);
+            add_roomy(roomy, p);
             *last = p;
         }
     }
@@ -342,6 +371,7 @@ impl Request {
     fn ask(&mut self, c: Ctx, m: &Message) -> Result<(), NoMemory>
         ensures asked { OnOk result (Asks c m.now.body self.old self.new) }
         ensures same { OnErr result (AsksNot self.old self.new) }
+        ensures roomy { KeepsRoomy self.old self.new }
         ensures room { self.new.waiting.room ≡ self.old.waiting.room }
     {
         if self.live.len() >= MOST_LIVE {
@@ -408,13 +438,14 @@ impl Request {
         ensures raw { self.old.raw ≡ true → (result ≡ m) × (self.new.live ≡ self.old.live) × (self.new.dues ≡ self.old.dues) }
         ensures cooked { self.old.raw ≡ false → (p : ℕ) → out ≡ Some p → self.new.live.items ≡ with_out c (sent_now self.old p) self.old.live.items }
         ensures seen { self.old.raw ≡ false → (p : ℕ) → out ≡ Some p → NotesOut self.old.dues self.new.dues self.old.live.items c (sent_now self.old p) }
+        ensures roomy { KeepsRoomy self.old self.new }
         ensures message { self.old.raw ≡ false → (p : ℕ) → out ≡ Some p → IsLed self.old.live.items c m.body result }
     {
         match out {
             None => m,
             Some(pipe) => {
                 self.last_pipe = pipe;
-                let _ = self.roomy.insert(pipe.0);
+                add_roomy(&mut self.roomy, pipe);
                 if self.raw {
                     return m;
                 }
@@ -467,23 +498,42 @@ impl Proto for Request {
         self.raw
     }
 
-    fn reserve(&mut self, slots: u32) -> Result<(), NoMemory> {
+    fn reserve(&mut self, slots: u32) -> Result<(), NoMemory>
+        ensures kind { req_kind self.new.raw self.new.options ≡ req_kind self.old.raw self.old.options }
+        ensures same { (t : Moment) → Ties self.old t → Ties self.new t }
+        ensures room { OnOk result (slots ≤ places_left self.new) }
+        ensures roomy { KeepsRoomy self.old self.new }
+    {
         self.waiting.reserve(slots)
     }
 
-    fn up(&mut self, p: PipeId) -> Result<(), UpFault> {
+    fn up(&mut self, p: PipeId) -> Result<(), UpFault>
+        ensures up { OnOk result ((t : Moment) (place : ℕ) (name : WireNumbers) → NoFlood t → Takes (Ties self.old) (Ties self.new) t (entries.Up p place name)) }
+        ensures alone { OnOk result ((t : Moment) → Lawful t → Ties self.old t → IsTrue (is_pair t.z.role) → up (past t) ≡ []) }
+        ensures refused { result ≡ Err UpFault.Refused → (t : Moment) → Lawful t → Ties self.old t → IsTrue (is_pair t.z.role) × (up (past t) ≢ []) }
+        ensures same { OnErr result ((t : Moment) → Ties self.old t → Ties self.new t) }
+        ensures room { places_left self.old ≤ places_left self.new }
+        ensures roomy { KeepsRoomy self.old self.new }
+    {
         match self.ports.push(p) {
             Ok(()) => {
-                let _ = self.roomy.insert(p.0);
+                add_roomy(&mut self.roomy, p);
                 Ok(())
             }
             Err(_) => Err(UpFault::NoMemory),
         }
     }
 
-    fn down(&mut self, p: PipeId) {
+    fn down(&mut self, p: PipeId)
+        ensures down { (t : Moment) (why : Why) → Takes (Ties self.old) (Ties self.new) t (entries.Down p why) }
+        ensures left { (t : Moment) (op : OpName) (s : Begun) (b : List ℕ) → Lawful t → Ties self.old t → CanSend t op p s b → work_left self.new < work_left self.old }
+        ensures left_again { (t : Moment) (c : ℕ) (r : LiveRequest) → Lawful t → Ties self.old t → CanAgain t c p r → work_left self.new < work_left self.old }
+        ensures left_flood { (t : Moment) → Lawful t → Ties self.old t → floods t.z.role ≡ true → work_left self.new ≤ work_left self.old }
+        ensures room { places_left self.old ≤ places_left self.new }
+        ensures roomy { DropsRoomy p self.old self.new }
+    {
         self.ports.forget(p);
-        self.roomy.remove(&p.0);
+        drop_roomy(&mut self.roomy, p);
         self.dues.down(&self.live, p);
     }
 
@@ -497,6 +547,7 @@ impl Proto for Request {
         ensures kept { (t : Moment) → Lawful (also t (Frame p m.body)) → Ties self.old t → Frames (Ties self.new) result t p m.body }
         ensures room { places_left self.old ≤ places_left self.new }
         ensures memory { is_raw self.old ≡ false → result ≢ Verdict.NoMemory }
+        ensures roomy { KeepsRoomy self.old self.new }
     {
         if self.raw {
             return self.keep_raw(p, m);
@@ -543,6 +594,7 @@ impl Proto for Request {
         ensures room { places_left self.old ≤ places_left self.new + 1 }
         ensures room_kept { OnErr result (places_left self.old ≤ places_left self.new) }
         ensures fits { is_raw self.old ≡ true → OnErr result ⊥ }
+        ensures roomy { KeepsRoomy self.old self.new }
     {
         match act {
             Act::Recv => {
@@ -568,7 +620,11 @@ impl Proto for Request {
     }
 
     /// Makes one more pipe count as roomy, in the round of the pipes, so that each is tried again now and then.
-    fn fresh(&mut self) {
+    fn fresh(&mut self)
+        ensures fresh { (t : Moment) (caller : ℕ) → Lawful (next t caller) → Ties self.old t → Ties self.new (next t caller) }
+        ensures room { places_left self.old ≤ places_left self.new }
+        ensures roomy { KeepsRoomy self.old self.new }
+    {
         self.ports.clear();
         try_again(&mut self.ports, &mut self.roomy, &mut self.retried);
     }
@@ -583,6 +639,7 @@ impl Proto for Request {
         ensures room { places_left self.old ≤ places_left self.new }
         ensures next { (op : OpName) (p : ℕ) → result ≡ Offer.Send op p → (t : Moment) → Ties self.old t → IsNextPipe (roomy_of self.old) t p }
         ensures resend { (c p : ℕ) → result ≡ Offer.Again c p → (t : Moment) → Ties self.old t → IsNextPipe (roomy_of self.old) t p }
+        ensures roomy { KeepsRoomy self.old self.new }
     {
         if let Some(op) = self.next_left() {
             return Offer::Finish {
@@ -599,9 +656,16 @@ impl Proto for Request {
         }
     }
 
-    fn full(&mut self, p: PipeId) {
+    fn full(&mut self, p: PipeId)
+        ensures full { (t : Moment) → Takes (Ties self.old) (Ties self.new) t (entries.Full p) }
+        ensures left { (t : Moment) (op : OpName) (s : Begun) (b : List ℕ) → Lawful t → Ties self.old t → CanSend t op p s b → work_left self.new < work_left self.old }
+        ensures left_again { (t : Moment) (c : ℕ) (r : LiveRequest) → Lawful t → Ties self.old t → CanAgain t c p r → work_left self.new < work_left self.old }
+        ensures left_flood { (t : Moment) → Lawful t → Ties self.old t → floods t.z.role ≡ true → work_left self.new ≤ work_left self.old }
+        ensures room { places_left self.old ≤ places_left self.new }
+        ensures roomy { DropsRoomy p self.old self.new }
+    {
         self.ports.mark(p);
-        self.roomy.remove(&p.0);
+        drop_roomy(&mut self.roomy, p);
     }
 
     fn goes_to(&self, op: OpName, p: PipeId) -> bool {
@@ -616,7 +680,12 @@ impl Proto for Request {
         None
     }
 
-    fn again(&mut self, c: Ctx, p: PipeId) -> Option<Message> {
+    fn again(&mut self, c: Ctx, p: PipeId) -> Option<Message>
+        ensures again { (t : Moment) (r : LiveRequest) → Lawful t → Ties self.old t → CanAgain t c p r → MatchOption result (Ties self.new (also t (entries.Dry c))) (λ m. (wire_text m ≡ wire_of r) × Ties self.new (also t (entries.Out p (wire_of r)))) }
+        ensures left { (t : Moment) (r : LiveRequest) → Lawful t → Ties self.old t → CanAgain t c p r → work_left self.new < work_left self.old }
+        ensures room { places_left self.old ≤ places_left self.new }
+        ensures roomy { KeepsRoomy self.old self.new }
+    {
         match self.live.copy_of(c) {
             None => {
                 self.contexts.dry(c);
@@ -625,7 +694,7 @@ impl Proto for Request {
             }
             Some(copy) => {
                 self.last_pipe = p;
-                let _ = self.roomy.insert(p.0);
+                add_roomy(&mut self.roomy, p);
                 self.dues.note_out(c, p, self.tick);
                 let out = LastOut {
                     pipe: p,
@@ -636,7 +705,14 @@ impl Proto for Request {
         }
     }
 
-    fn won(&mut self, op: OpName, out: Option<PipeId>) -> Option<Message> {
+    fn won(&mut self, op: OpName, out: Option<PipeId>) -> Option<Message>
+        ensures given { (t : Moment) (s : Begun) (m : Text) → out ≡ None → Lawful t → Ties self.old t → CanGive t op s m → (option_map text_of result ≡ Some m) × Ties self.new (also t (entries.End op (Won (Received m)))) × HasServed self.old self.new }
+        ensures flooded { (t : Moment) (s : Begun) → out ≡ None → Lawful (also t (entries.End op (Won Sent))) → Ties self.old t → pending (past t) op ≡ Some s → floods t.z.role ≡ true → Ties self.new (also t (entries.End op (Won Sent))) × HasServed self.old self.new }
+        ensures dropped { (t : Moment) (s : Begun) → out ≡ None → Lawful t → Ties self.old t → CanDrop t op s → Ties self.new (also t (entries.End op (Won Sent))) × HasServed self.old self.new }
+        ensures sent { (t : Moment) (p : ℕ) (s : Begun) (b : List ℕ) → out ≡ Some p → Lawful t → Ties self.old t → CanSend t op p s b → MatchOption result ⊥ (λ m. wire_text m ≡ b) × Ties self.new (also (also t (entries.Out p b)) (entries.End op (Won Sent))) × HasServed self.old self.new }
+        ensures room { places_left self.old ≤ places_left self.new }
+        ensures roomy { KeepsRoomy self.old self.new }
+    {
         match self.waiting.take(op) {
             None => None,
             Some(w) => {
@@ -649,7 +725,11 @@ impl Proto for Request {
         }
     }
 
-    fn lost(&mut self, op: OpName) -> Option<Message> {
+    fn lost(&mut self, op: OpName) -> Option<Message>
+        ensures lost { (t : Moment) (s : Begun) (cause : HistoryCause) (by : ℕ) → Lawful (also t (entries.End op (Gone cause by))) → Ties self.old t → pending (past t) op ≡ Some s → (option_map text_of result ≡ message_of s.act) × Ties self.new (also t (entries.End op (Gone cause by))) × HasServed self.old self.new }
+        ensures room { places_left self.old ≤ places_left self.new }
+        ensures roomy { KeepsRoomy self.old self.new }
+    {
         match self.waiting.take(op) {
             None => None,
             Some(w) => {
@@ -662,17 +742,30 @@ impl Proto for Request {
         }
     }
 
-    fn clock(&mut self, now: Tick) {
+    fn clock(&mut self, now: Tick)
+        ensures ticked { (t : Moment) (due : List OpName) → NoFlood t → Takes (Ties self.old) (Ties self.new) t (entries.Tick now due) }
+        ensures room { places_left self.old ≤ places_left self.new }
+        ensures roomy { KeepsRoomy self.old self.new }
+    {
         self.tick = now;
         self.contexts.wet();
         self.dues.tick(&self.live, now, self.options.resend);
     }
 
-    fn open_ctx(&mut self, c: Ctx) -> Result<(), NoMemory> {
+    fn open_ctx(&mut self, c: Ctx) -> Result<(), NoMemory>
+        ensures opened { OnOk result ((t : Moment) → Takes (Ties self.old) (Ties self.new) t (entries.Ctx c gate.Open)) }
+        ensures same { OnErr result ((t : Moment) → Ties self.old t → Ties self.new t) }
+        ensures room { places_left self.old ≤ places_left self.new }
+        ensures roomy { KeepsRoomy self.old self.new }
+    {
         self.contexts.open(c)
     }
 
-    fn close_ctx(&mut self, c: Ctx) {
+    fn close_ctx(&mut self, c: Ctx)
+        ensures shut { (t : Moment) → Takes (Ties self.old) (Ties self.new) t (entries.Ctx c gate.Shut) }
+        ensures room { places_left self.old ≤ places_left self.new }
+        ensures roomy { KeepsRoomy self.old self.new }
+    {
         let _ = self.live.take_live(c);
         self.contexts.close(c);
     }
@@ -684,7 +777,11 @@ impl Proto for Request {
         Ok(false)
     }
 
-    fn close(&mut self) {
+    fn close(&mut self)
+        ensures closed { (t : Moment) (totals : Totals) → Takes (Ties self.old) (Ties self.new) t (entries.Close totals) }
+        ensures room { places_left self.old ≤ places_left self.new }
+        ensures roomy { KeepsRoomy self.old self.new }
+    {
         self.live.clear();
         self.dues.clear();
         self.ready.clear();

@@ -1,7 +1,7 @@
 -- A surveyor stands for its history after the calls for pipes, contexts, turns and time.
 use Rattle.std.proofs.Common.{◌≡◌, ◌≢◌, refl, ap, sym, ◌∙◌, subst, List, [], ◌∷◌, ◌++◌, ℕ, ◌+◌, ◌-◌, ◌≤◌, max, Bool, true, false, cond, arith, Option, Some, None, map}
 use Rattle.std.specs.Prelude.{filter, not, min, ◌^◌, ◌&&◌, ◌||◌, ◌==◌}
-use Rattle.std.specs.List.{list_any}
+use Rattle.std.specs.List.{list_any, list_all}
 use Rattle.std.specs.Option.{option_map}
 use Rattle.sp_base.specs.declared.OpName.{OpName}
 use Rattle.sp_base.specs.declared.role.Role.TheVariants as role
@@ -31,9 +31,12 @@ use Rattle.sp_proto.specs.Machines.{NoFlood}
 use Rattle.proto_shared.proofs.Copying.{pool_down}
 use Rattle.proto_shared.proofs.FloodTurns.{no_flood, goes_on, pipe_down, pipe_full, turn_begins}
 use Rattle.proto_shared.proofs.PipeCounts.{counted_up, counted_down}
+use Rattle.proto_requests.specs.Ordered.{is_before}
+use Rattle.proto_requests.proofs.OpenContexts.{seen_before}
 use Rattle.proto_survey.specs.declared.survey.Survey.{Survey}
 use Rattle.proto_survey.specs.declared.waiting.SurveyOperation.{SurveyOperation}
 use Rattle.proto_survey.specs.declared.waiting.SurveyEnd.TheVariants as ends
+use Rattle.proto_survey.specs.Contexts.{itself}
 use Rattle.proto_survey.specs.Lives.{SurveyView, survey_of, is_over, over_on, without_over}
 use Rattle.proto_survey.specs.Askings.{left_by}
 use Rattle.proto_survey.specs.Surveys.{Ties, Asked, IsFlood, without_live, item_of}
@@ -84,6 +87,13 @@ pub fresh_ties : (m : Survey) (t : Moment) (k : ℕ) → Lawful (next t k) → T
 fresh_ties m t k l h = (h.0, turn_begins _ _ t k l (it_floods t.z (is_survey m t h)))
 
 -- ---- Contexts
+
+itself_numbered : (cs : List ℕ) → map itself cs ≡ cs
+itself_numbered [] = refl
+itself_numbered (c ∷ cs) = ap (λ (rest : List ℕ). c ∷ rest) (itself_numbered cs)
+
+pub opened_before : (m : Survey) (t : Moment) (c : ℕ) → Lawful (also t (Ctx c Open)) → Ties m t → list_all (is_before itself c) m.contexts.items ≡ true
+opened_before m t c l h = seen_before itself m.contexts.items t c l (itself_numbered m.contexts.items ∙ h.0.2)
 
 pub opened_ties : (m n : Survey) (t : Moment) (c : ℕ) → Ties m t → n ≡ record m { contexts = n.contexts } → n.contexts.items ≡ m.contexts.items ++ c ∷ [] → Ties n (also t (Ctx c Open))
 opened_ties m n t c h same items =

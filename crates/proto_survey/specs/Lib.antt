@@ -1,3 +1,4 @@
+pub mod Contexts
 pub mod Lives
 pub mod Askings
 pub mod Surveys

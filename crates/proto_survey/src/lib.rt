@@ -14,6 +14,7 @@
 //! To read: `Ties` and `Asked` of `specs/Surveys`, then `survey`.
 #![tactic(auto)]
 
+mod contexts;
 mod live;
 mod survey;
 mod waiting;

@@ -63,6 +63,11 @@ impl LiveSurvey {
         self.id == id
     }
 
+    /// Returns whether its id is below this one.
+    pub fn is_below(&self, id: u32) -> bool {
+        self.id < id
+    }
+
     /// Returns whether `time` milliseconds have passed since its begin.
     pub fn is_over(&self, time: u64, now: Tick) -> bool
         ensures { result ≡ is_over time now self.now }

@@ -20,6 +20,7 @@ ghost use Rattle.proto_survey.specs.declared.survey.KeptResponse.{KeptResponse a
 ghost use Rattle.proto_survey.specs.Lives.{SurveyView, is_live_on, has_number, keeps_at, first_in, given_from, with_reply, without_over, is_over, free_number};
 ghost use Rattle.proto_survey.specs.Surveys.{Ties, survey_kind, places_left, without_live, out_text, AreSame, Asks, Awaits, KeepsRaw, KeepsReply, is_raw, copies_left, gets, is_given, is_fed, IsNext, survey_state};
 
+use crate::contexts::SurveyContexts;
 use crate::live::LiveSurvey;
 use crate::waiting::{
     SurveyOperation, cause_of, ended_place, leave_on, leave_over, receive_place, send_place, take,
@@ -53,8 +54,7 @@ pub struct Survey {
     last_id: Option<u32>,
     /// The number of pipes that are up.
     pipes: usize,
-    /// The open contexts, in the order in which they were opened.
-    contexts: Vec<Ctx>,
+    contexts: SurveyContexts,
     /// Cooked: the live surveys, at most one of each context, in the order of their begins.
     live: Vec<LiveSurvey>,
     /// Raw: the responses that are kept, the oldest first, at most one of each pipe.
@@ -63,24 +63,6 @@ pub struct Survey {
     waiting: Vec<SurveyOperation>,
     /// The copies of the pending send, one for each pipe that gets it.
     copies: Vec<Message>,
-}
-
-// ---- Contexts
-
-// The contexts of a new surveyor: the socket's own.
-fn first_context(alloc: Global) -> Result<Vec<Ctx>, NoMemory>
-    ensures { IfOk result (λ v. v.items ≡ 0 ∷ []) }
-{
-    let mut contexts = Vec::new(alloc);
-    contexts.push(Ctx(0))?;
-    Ok(contexts)
-}
-
-// Returns whether the context is open.
-fn is_open(contexts: &[Ctx], c: Ctx) -> bool
-    ensures { result ≡ has contexts.now c }
-{
-    contexts.iter().any(|d| d.0 == c.0)
 }
 
 // ---- Surveys that are live
@@ -92,11 +74,24 @@ fn live_place(live: &[LiveSurvey], c: Ctx) -> Option<usize>
     live.iter().position(|x| x.is_on(c))
 }
 
-// Returns whether the context has a live survey.
-fn has_live(live: &[LiveSurvey], c: Ctx) -> bool
+// The place where the survey of this id should be.
+fn hint(live: &[LiveSurvey], id: u32) -> usize {
+    live.partition_point(|x| x.is_below(id))
+}
+
+// Returns whether the survey at this place belongs to the context.
+fn is_live_at(live: &[LiveSurvey], i: usize, c: Ctx) -> bool
+    ensures { result ≡ true → list_any (is_live_on c) live.now ≡ true }
+{
+    i < live.len() && live[i].is_on(c)
+}
+
+// Returns whether the context, whose last survey had this id, has a live one. All are searched only if it has none, or
+// if the ids began again from the lowest.
+fn has_live(live: &[LiveSurvey], id: u32, c: Ctx) -> bool
     ensures { result ≡ list_any (is_live_on c) live.now }
 {
-    live.iter().any(|x| x.is_on(c))
+    is_live_at(live, hint(live, id), c) || live.iter().any(|x| x.is_on(c))
 }
 
 // Returns whether a response is kept for the context.
@@ -271,7 +266,7 @@ impl Survey {
         requires { Fits options }
         ensures { IfOk result (λ m. Starts Ties m (survey_kind raw options)) }
     {
-        let contexts = first_context(alloc)?;
+        let contexts = SurveyContexts::new(alloc)?;
         Ok(Survey {
             alloc,
             raw,
@@ -303,6 +298,7 @@ impl Survey {
         leave_on(&mut self.waiting, c);
         let id = next_id(&self.live, self.options.dice, self.last_id);
         self.last_id = Some(id);
+        self.contexts.begin(c, id);
         self.live
             .push_reserved(LiveSurvey::new(self.alloc, c, id, self.tick));
         Ok(())
@@ -371,7 +367,7 @@ impl Survey {
             return false;
         }
         match verb {
-            Verb::Recv => !has_live(&self.live, c),
+            Verb::Recv => !has_live(&self.live, self.contexts.last_id(c), c),
             Verb::Send => false,
         }
     }
@@ -467,7 +463,7 @@ impl Proto for Survey {
         if self.raw && c.0 != 0 {
             return Err(CheckError::NotSupported);
         }
-        if !is_open(&self.contexts, c) {
+        if !self.contexts.has(c) {
             return Err(CheckError::NoEntry);
         }
         if self.lacks_survey(c, verb) {
@@ -605,13 +601,12 @@ impl Proto for Survey {
     }
 
     fn open_ctx(&mut self, c: Ctx) -> Result<(), NoMemory> {
-        self.contexts.push(c)?;
-        Ok(())
+        self.contexts.open(c)
     }
 
     fn close_ctx(&mut self, c: Ctx) {
         end_live(&mut self.live, c);
-        self.contexts.retain(|d| d.0 != c.0);
+        self.contexts.close(c);
     }
 
     fn topic(&mut self, c: Ctx, t: &[u8], on: bool) -> Result<bool, NoMemory> {

@@ -30,3 +30,6 @@ returns-in-Ok-clause-begun c =
 
 pub returns-in-Err-clause-same : goal.returns-in-Err-clause-same
 returns-in-Err-clause-same c = λ t h. kept_back c.args.self.now c.ask.new.self t c.in-Err.ensures.same h
+
+pub returns-in-Ok-clause-roomy : goal.returns-in-Ok-clause-roomy
+returns-in-Ok-clause-roomy c = c.ask.ensures.roomy
