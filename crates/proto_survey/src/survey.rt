@@ -4,7 +4,7 @@ ghost use Rattle.std.specs.Vec.{vec_len, vec_capacity};
 ghost use Rattle.std.specs.Option.{option_map};
 ghost use Rattle.std.specs.List.{position, list_any};
 ghost use Rattle.sp_history.specs.Options.{Fits};
-ghost use Rattle.sp_history.specs.Lists.{head_of, has, first_word, is_nil};
+ghost use Rattle.sp_history.specs.Lists.{head_of, first_word, is_nil};
 ghost use Rattle.sp_history.specs.Requests.{next_number};
 ghost use Rattle.sp_history.specs.Past.{up};
 ghost use Rattle.sp_history.specs.Moments.{Moment, Lawful, past, also};
