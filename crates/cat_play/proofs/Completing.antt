@@ -21,7 +21,7 @@ opened status.NetFault z plan play past old new e i = go e.0
     go : Rose old.net.faults new.net.faults ⊎ ListensTwice plan.ends → ⊥
     go (inl rose) = i.net rose
     go (inr twice) = i.once twice
-opened status.OutFault z plan play past old new e i = i.sink e
+opened status.OutFault z plan play past old new e i = i.sink e.0
 opened status.FileFault z plan play past old new e i = e
 
 pub unopened : (s : Status) (plan : CatPlan) (old new : World) → UnopenedFor s old new → IsSpared plan old new → ComesToEnd s

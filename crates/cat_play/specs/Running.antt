@@ -28,7 +28,7 @@ use Rattle.cat_text.specs.declared.plan.Plan.TheVariants as plans
 use Rattle.cat_play.specs.declared.status.Status.{Status}
 use Rattle.cat_play.specs.declared.status.Status.TheVariants as status
 use Rattle.cat_play.specs.Plans.{Play, IsPlayOf}
-use Rattle.cat_play.specs.Scripts.{counted, texts, joined, has_reached, timed_out}
+use Rattle.cat_play.specs.Scripts.{counted, texts, joined, has_reached, timed_out, ends_received}
 use Rattle.cat_play.specs.Playing.{Plays}
 use Rattle.sp_links.specs.Ways.{Ways}
 use Rattle.sp_ends.specs.LinkRecords.{lane_place, place_of, Records, max_body, AreWhole, has_dry_miss, KeepsOthers}
@@ -69,7 +69,7 @@ EndedFor status.SendTimedOut z plan play past old new = IsTrue (timed_out false 
 EndedFor status.Over z plan play past old new = new.pace.left ≡ 0
 EndedFor status.NetFault z plan play past old new =
     (Rose old.net.faults new.net.faults ⊎ ListensTwice plan.ends) × (new.pace.left ≡ old.pace.left) × (new.net.opened ≡ old.net.opened)
-EndedFor status.OutFault z plan play past old new = Rose old.sink.faults new.sink.faults
+EndedFor status.OutFault z plan play past old new = Rose old.sink.faults new.sink.faults × IsTrue (ends_received past)
 EndedFor status.FileFault z plan play past old new = ⊥
 EndedFor status.NoMemory z plan play past old new = ⊤
 
@@ -121,6 +121,8 @@ pub record Runs (ways : Ways) (s : Status) (plan : CatPlan) (play : Play) (dice 
   pub spends : Spends plan.ends record_ old.net new.net old.pace new.pace
   pub ended : EndedFor s (run_setting plan.role dice) plan play (past_of record_) old new
   pub paced : PacedBy s old new
+  -- a put that fails ends the run
+  pub faultless : ¬ (s ≡ status.OutFault) → new.sink.faults ≡ old.sink.faults
   -- out of memory for a link ends the run
   pub memory : has_dry_miss (past_of record_) ≡ true → s ≡ status.NoMemory
 

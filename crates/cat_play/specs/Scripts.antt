@@ -170,3 +170,19 @@ timed_out receives past = timed_out_in receives (open_part past)
 -- the count is reached, or an operation timed out
 abbrev pub over : Setting → Play → List Entry → Bool
 over z play past = has_reached play.count (counted z play past) || timed_out true past || timed_out false past
+
+-- ---- The last receive
+
+-- a receive got a message
+abbrev pub is_received : Option Ending → Bool
+is_received (Some (Won (Received m))) = true
+is_received _ = false
+
+-- what was collected last is a receive that got a message, before the close, and after it nothing was begun and no
+-- tick came
+abbrev pub ends_received : List Entry → Bool
+ends_received [] = false
+ends_received (Begin op k c act d ∷ past) = false
+ends_received (Tick t due ∷ past) = false
+ends_received (Took op k ∷ past) = not (is_closed past) && is_received (end_of past op)
+ends_received (_ ∷ past) = ends_received past

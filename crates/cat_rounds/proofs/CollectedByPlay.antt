@@ -33,7 +33,7 @@ use Rattle.sp_core.specs.Collecting.{CollectedBy, HasTook, HasEnded}
 use Rattle.sp_socket.specs.Singles.{SingleView, TookOne, IsSound}
 use Rattle.cat_text.specs.Printing.{print}
 use Rattle.cat_play.specs.Plans.{Play}
-use Rattle.cat_play.specs.Scripts.{asks_anew, under_way, counted, counts_for, over, has_reached, timed_out, is_timed_out, is_kind, texts, text_of, joined}
+use Rattle.cat_play.specs.Scripts.{asks_anew, under_way, counted, counts_for, over, has_reached, timed_out, is_timed_out, is_kind, texts, text_of, joined, is_received, ends_received}
 use Rattle.cat_play.specs.Playing.{alternates, is_left}
 use Rattle.sp_ends.specs.Entries.{each}
 use Rattle.cat_play.specs.Running.{IsCutShort}
@@ -319,38 +319,42 @@ joined_more ts t = flat_map-append (λ x. x) ts (t ∷ []) ∙ ap (λ ys. joined
 cut : (ts : List (List ℕ)) (t prefix : List ℕ) → IsPrefix prefix t → IsCutShort (ts ++ t ∷ []) (joined ts ++ prefix)
 cut ts t prefix f = inr (ts, t, prefix, refl, f, refl)
 
-pub noted_prints : (result : Collecting) (s s' : SingleView) (p p' : Player) (op : OpName) (b : Begun) (ending : Ending) (before was now : Option (List ℕ)) → IsCollected s s' p op b.act ending → p'.script ≡ p.script
+pub noted_prints : (result : Collecting) (s s' : SingleView) (p p' : Player) (op : OpName) (b : Begun) (ending : Ending) (before was now : Option (List ℕ)) → IsCollected s s' p op b.act ending → p'.script ≡ p.script → p'.op ≡ None
     → PutsFor (outcome_of b ending) result p' was now → HasPrinted before was s.seen p → PrintedThen result before now s'.seen p'
-noted_prints result s s' p p' op b ending before was now k same puts had =
-    by_ending ending puts (ap (λ sc. texts (play_of sc) (past_of s'.seen)) same ∙ k.leaves.texts_are)
+noted_prints result s s' p p' op b ending before was now k same free puts had =
+    by_ending ending puts (ap (λ sc. texts (play_of sc) (past_of s'.seen)) same ∙ k.leaves.texts_are) k.leaves.received
   where
     nothing : (result ≡ collecting.Free) × (now ≡ was) → texts (play_of p'.script) (past_of s'.seen) ≡ texts (play_of p.script) (past_of s.seen) ++ [] → PrintedThen result before now s'.seen p'
     nothing (free, kept) all =
         subst (λ (r : Collecting). PrintedThen r before now s'.seen p') (sym free) (kept ∙ (had ∙ ap (λ ts. grown before (joined ts)) (sym (all ∙ append_nil (texts (play_of p.script) (past_of s.seen))))))
 
-    by_result : (r : Collecting) (m : RecordedMessage) → Puts r p' (record { header = m.header; body = m.body }) was now → texts (play_of p'.script) (past_of s'.seen) ≡ texts (play_of p.script) (past_of s.seen) ++ print p'.script.format m.body ∷ []
+    by_result : (r : Collecting) (m : RecordedMessage) → Puts r p' (record { header = m.header; body = m.body }) was now → texts (play_of p'.script) (past_of s'.seen) ≡ texts (play_of p.script) (past_of s.seen) ++ print p'.script.format m.body ∷ [] → ends_received (past_of s'.seen) ≡ true
         → PrintedThen r before now s'.seen p'
-    by_result collecting.Free m put all =
+    by_result collecting.Free m put all ends =
         put
         ∙ (ap (λ w. grown w (print p'.script.format m.body)) had
         ∙ (grown_twice before (joined (texts (play_of p.script) (past_of s.seen))) (print p'.script.format m.body)
         ∙ ap (λ xs. grown before xs) (sym (ap joined all ∙ joined_more (texts (play_of p.script) (past_of s.seen)) (print p'.script.format m.body)))))
-    by_result collecting.NotYet m put all = elim put [ ]
-    by_result collecting.OutFault m (prefix, rest, is, put) all = (
-      joined (texts (play_of p.script) (past_of s.seen)) ++ prefix,
-      subst (λ (ts : List (List ℕ)). IsCutShort ts (joined (texts (play_of p.script) (past_of s.seen)) ++ prefix)) (sym all) (cut (texts (play_of p.script) (past_of s.seen)) (print p'.script.format m.body) prefix (rest, is)),
-      put ∙ (ap (λ w. grown w prefix) had ∙ grown_twice before (joined (texts (play_of p.script) (past_of s.seen))) prefix),
+    by_result collecting.NotYet m put all ends = elim put [ ]
+    by_result collecting.OutFault m (prefix, rest, is, put) all ends = (
+      (
+        joined (texts (play_of p.script) (past_of s.seen)) ++ prefix,
+        subst (λ (ts : List (List ℕ)). IsCutShort ts (joined (texts (play_of p.script) (past_of s.seen)) ++ prefix)) (sym all) (cut (texts (play_of p.script) (past_of s.seen)) (print p'.script.format m.body) prefix (rest, is)),
+        put ∙ (ap (λ w. grown w prefix) had ∙ grown_twice before (joined (texts (play_of p.script) (past_of s.seen))) prefix),
+      ),
+      free,
+      ends,
     )
-    by_result collecting.NoMemory m put all = (
+    by_result collecting.NoMemory m put all ends = (
       joined (texts (play_of p.script) (past_of s.seen)) ++ [],
       subst (λ (ts : List (List ℕ)). IsCutShort ts (joined (texts (play_of p.script) (past_of s.seen)) ++ [])) (sym all) (cut (texts (play_of p.script) (past_of s.seen)) (print p'.script.format m.body) [] (print p'.script.format m.body, refl)),
       put ∙ (had ∙ ap (λ xs. grown before xs) (sym (append_nil (joined (texts (play_of p.script) (past_of s.seen)))))),
     )
 
-    by_ending : (x : Ending) → PutsFor (outcome_of b x) result p' was now → texts (play_of p'.script) (past_of s'.seen) ≡ texts (play_of p.script) (past_of s.seen) ++ text_of (play_of p.script) (Some x) → PrintedThen result before now s'.seen p'
-    by_ending (Won (Received m)) put all = by_result result m put (all ∙ ap (λ sc. texts (play_of p.script) (past_of s.seen) ++ print sc.format m.body ∷ []) (sym same))
-    by_ending (Won Sent) put all = nothing put all
-    by_ending (Gone cause by) put all = nothing put all
+    by_ending : (x : Ending) → PutsFor (outcome_of b x) result p' was now → texts (play_of p'.script) (past_of s'.seen) ≡ texts (play_of p.script) (past_of s.seen) ++ text_of (play_of p.script) (Some x) → ends_received (past_of s'.seen) ≡ is_received (Some x) → PrintedThen result before now s'.seen p'
+    by_ending (Won (Received m)) put all ends = by_result result m put (all ∙ ap (λ sc. texts (play_of p.script) (past_of s.seen) ++ print sc.format m.body ∷ []) (sym same)) ends
+    by_ending (Won Sent) put all ends = nothing put all
+    by_ending (Gone cause by) put all ends = nothing put all
 
 pub noted_script : (is_over : Bool) (o : Outcome) (old new : Player) → NotedAs is_over o old new → new.script ≡ old.script
 noted_script is_over (outcomes.Received m) old new noted = ap (λ q. q.script) noted
@@ -360,6 +364,15 @@ noted_script is_over (outcomes.Gone Cancelled by back) old new noted = ap (λ q.
 noted_script is_over (outcomes.Gone Closed by back) old new noted = ap (λ q. q.script) noted
 noted_script is_over (outcomes.Gone Superseded by back) old new noted = ap (λ q. q.script) noted
 noted_script is_over (outcomes.Gone SurveyOver by back) old new noted = ap (λ q. q.script) noted
+
+pub noted_op : (is_over : Bool) (o : Outcome) (old new : Player) → NotedAs is_over o old new → new.op ≡ old.op
+noted_op is_over (outcomes.Received m) old new noted = ap (λ q. q.op) noted
+noted_op is_over outcomes.Sent old new noted = ap (λ q. q.op) noted
+noted_op is_over (outcomes.Gone TimedOut by back) old new noted = ap (λ q. q.op) noted
+noted_op is_over (outcomes.Gone Cancelled by back) old new noted = ap (λ q. q.op) noted
+noted_op is_over (outcomes.Gone Closed by back) old new noted = ap (λ q. q.op) noted
+noted_op is_over (outcomes.Gone Superseded by back) old new noted = ap (λ q. q.op) noted
+noted_op is_over (outcomes.Gone SurveyOver by back) old new noted = ap (λ q. q.op) noted
 
 -- ---- What has not ended
 

@@ -34,7 +34,8 @@ use Rattle.cat_play.specs.declared.status.Status.TheVariants as status
 use Rattle.cat_play.specs.Spending.{listens_of, dials_of}
 use Rattle.cat_rounds.specs.declared.player.Player.{Player}
 use Rattle.cat_rounds.specs.PlayerSteps.{Sinks}
-use Rattle.cat_rounds.specs.RunRounds.{LinksStand, RunStands, WentOrOver, PacedTo, is_dry_at}
+use Rattle.cat_rounds.specs.RunRounds.{LinksStand, RunStands, WentOrOver, PacedTo, is_dry_at, is_failed_run}
+use Rattle.cat_rounds.proofs.Faultless.{run_faultless}
 use Rattle.cat_rounds.specs.Parts.{IsRunning}
 use Rattle.cat_rounds.proofs.Opened.{links_of, run_of}
 use Rattle.cat_rounds.proofs.AllRounds.{run_at}
@@ -573,7 +574,7 @@ ends_so status.FileFault es s p net net' pace pace' out out' went = went
 ends_so status.NoMemory es s p net net' pace pace' out out' went = went
 
 pub followed_on : {L : Type 0} (st : Status) (es : List End) (s : SingleView) (e : LinkEndsView L) (p : Player) (net net' : NetView) (pace pace' : PaceView) (out out' : SinkView) → WentOrOver st s p out out' pace' → PacedTo st pace pace' (past_of s.seen) → length e.listeners ≡ listens_of es
-    → length e.dialers ≡ dials_of es → AreApart (listen_names es) → Sinks (st ≡ status.OutFault) out out' → Follows st es s e p net net' pace pace' out out'
+    → length e.dialers ≡ dials_of es → AreApart (listen_names es) → Sinks (is_failed_run st) out out' → Follows st es s e p net net' pace pace' out out'
 followed_on st es s e p net net' pace pace' out out' went paced listens dials apart sinks =
     record { why = ends_so st es s p net net' pace pace' out out' went; paced = paced; once = once_so st es (never_twice es apart); asked = inr (listens, dials); sinks = sinks }
 
@@ -586,7 +587,7 @@ unasked st es s e p net net' pace out empty not_over no_fault once why =
       once = once;
       paced = record { left = omega (arith, none); few = omega (arith, none); over = λ is. absurd (not_over is); not_over = λ is. refl };
       asked = inl empty;
-      sinks = record { later = omega arith; fault = λ is. absurd (no_fault is) };
+      sinks = run_faultless st out out no_fault refl;
     }
 
 fault_over : status.NetFault ≡ status.Over → ⊥

@@ -29,3 +29,4 @@ pub mod PlaysStay
 pub mod Pipes
 pub mod TopicsStay
 pub mod Surveying
+pub mod Faultless

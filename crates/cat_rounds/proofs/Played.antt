@@ -40,6 +40,7 @@ use Rattle.cat_rounds.specs.Built.{EndsFor, Follows, FinishesTo, FinishesAs}
 use Rattle.cat_rounds.proofs.Silent.{keeps_all}
 use Rattle.cat_rounds.proofs.PlaysStay.{over_kept}
 use Rattle.cat_rounds.proofs.Asked.{AreAsked, were_asked}
+use Rattle.cat_rounds.proofs.Faultless.{is_faultless}
 
 -- ---- Turns that move no end
 
@@ -84,7 +85,7 @@ timed_out_is : (o : PlayEnd) (z : Setting) (play : Play) (past : List Entry) →
 timed_out_is o z play past e is = subst (λ (o : PlayEnd). IsOver o z play past) e is
 
 prints : (st : Status) (before now : Option (List ℕ)) (h : List (Turn Entry)) (p : Player) (ts : List (List ℕ)) (old new : World) → old.sink.text ≡ before → new.sink.text ≡ now → ts ≡ texts (play_of p.script) (past_of h) → PrintsTo st before now h p → Printed st ts old new
-prints status.OutFault before now h p ts old new b n e (piece, cut, is) =
+prints status.OutFault before now h p ts old new b n e ((piece, cut, is), free, ends) =
     (piece, subst (λ (ts : List (List ℕ)). IsCutShort ts piece) (sym e) cut, rw (b, n) is)
 prints status.NoMemory before now h p ts old new b n e (piece, cut, is) =
     (piece, subst (λ (ts : List (List ℕ)). IsCutShort ts piece) (sym e) cut, rw (b, n) is)
@@ -157,7 +158,8 @@ ends_for seen status.NetFault plan s e p start between net' pace pace' out out' 
   r.followed.why.2,
   r.finished.counts.opened ∙ r.followed.why.1,
 )
-ends_for seen status.OutFault plan s e p start between net' pace pace' out out' record_ files r = r.followed.sinks.fault refl
+ends_for seen status.OutFault plan s e p start between net' pace pace' out out' record_ files r =
+    (r.followed.sinks, r.finished.received r.printed.1 ∙ r.printed.2)
 ends_for seen status.FileFault plan s e p start between net' pace pace' out out' record_ files r = r.followed.why
 ends_for seen status.NoMemory plan s e p start between net' pace pace' out out' record_ files r = tt
 
@@ -178,6 +180,7 @@ runs seen st plan s e p start between net' pace pace' out out' record_ files dic
         over = λ (o : st ≡ status.Over). subst (λ (st : Status). EndsFor st plan.ends s p start.net between pace pace' out out') o r.followed.why;
         not_over = r.followed.paced.not_over;
       };
+      faultless = is_faultless st out out' r.followed.sinks;
       memory = dry_is seen st plan s e p start between net' pace pace' out out' record_ r;
     }
 

@@ -90,12 +90,12 @@ pub record Along (s s' : SingleView) (p p' : Player) (out out' : SinkView) : Typ
   pub goes_on : GoesOnBy s s'
   pub script : SameScript p p'
   pub printed : (before : Option (List ℕ)) → HasPrinted before out.text s.seen p → HasPrinted before out'.text s'.seen p'
-  pub later : out.faults ≤ out'.faults
+  pub faultless : out'.faults ≡ out.faults
 
 -- nothing was done, on the parts in use
 pub along_none : {L : Type 0} (a b : RunPartsView L) (out : SinkView) → a ≡ b → Along b.single a.single b.player a.player out out
 along_none a b out is =
-    subst (λ (v : RunPartsView _). Along v.single a.single v.player a.player out out) is (record { goes_on = goes_nowhere a.single; script = refl; printed = λ before h. h; later = omega arith })
+    subst (λ (v : RunPartsView _). Along v.single a.single v.player a.player out out) is (record { goes_on = goes_nowhere a.single; script = refl; printed = λ before h. h; faultless = refl })
 
 pub along_then : (a b c : SingleView) (p q r : Player) (x y w : SinkView) → Along a b p q x y → Along b c q r y w → Along a c p r x w
 along_then a b c p q r x y w f g =
@@ -103,7 +103,7 @@ along_then a b c p q r x y w f g =
       goes_on = goes_then a b c f.goes_on g.goes_on;
       script = g.script ∙ f.script;
       printed = λ before h. g.printed before (f.printed before h);
-      later = omega (arith, f.later, g.later);
+      faultless = g.faultless ∙ f.faultless;
     }
 
 -- ---- An ended play has nothing under way
@@ -168,7 +168,7 @@ serve_along r s s' p out t took stands =
         goes_on = goes_on_by s s' took linkless;
         script = refl;
         printed = λ before h. h ∙ ap (λ (ts : List (List ℕ)). grown before (joined ts)) (sym (silent_texts s s' took (play_of p.script) silent stands.play.is_open));
-        later = omega arith;
+        faultless = refl;
       };
       served = at_new s s' took (λ z h. HasServed z h) (a_serve_serves s.setting s.seen took.turn (no_tick took.turn.entries linkless) took.said.0);
     }

@@ -20,7 +20,7 @@ use Rattle.sp_ends.specs.EndViews.{LinkEndsView, Beginning}
 use Rattle.sp_ends.specs.RunLinks.{EndsStand, SameCounts}
 use Rattle.sp_ends.specs.LeftLinks.{LinksLeft, ClosedCleared}
 use Rattle.sp_ends.proofs.EndsStay.{linkless}
-use Rattle.cat_play.specs.Scripts.{under_way}
+use Rattle.cat_play.specs.Scripts.{under_way, ends_received}
 use Rattle.sp_ends.specs.Entries.{AddsNone, moves_ends}
 use Rattle.cat_play.proofs.Stepping.{under_way_stays}
 use Rattle.cat_rounds.specs.declared.player.Player.{Player}
@@ -29,6 +29,7 @@ use Rattle.cat_rounds.specs.PlayerSteps.{begins_or_ticks, CollectsLast}
 use Rattle.cat_rounds.specs.RunRounds.{AreCleared}
 use Rattle.cat_rounds.specs.Built.{FinishesTo}
 use Rattle.cat_rounds.proofs.Silent.{adds_one, adds_then}
+use Rattle.cat_rounds.proofs.Through.{received_stays}
 use Rattle.cat_rounds.proofs.ClosedPlays.{IsClosedPlay, closing_play, close_linkless, past_closed, silent_before_close}
 use Rattle.cat_rounds.proofs.WrittenBeforeClose.{closed_cleared}
 use Rattle.cat_rounds.proofs.Uncancelled.{uncancelled_each, due_each}
@@ -50,6 +51,7 @@ pub record IsEnding (totals : Totals) (s s' s'' : SingleView) (p : Player) (reco
   pub play : PlayStands s.setting s.seen p
   pub closing : TookOne (λ z h t. ClosedBy totals z.callers h t) s s'
   pub last : CollectsLast s' s''
+  pub nothing : p.op ≡ None → s''.seen ≡ s'.seen
   pub whole : record_ ≡ s''.seen
 
 module _ (totals : Totals) (s s' s'' : SingleView) (p : Player) (record_ : List (Turn Entry)) (e : IsEnding totals s s' s'' p record_) where
@@ -76,6 +78,13 @@ module _ (totals : Totals) (s s' s'' : SingleView) (p : Player) (record_ : List 
   play_closes =
       closing_play s.setting (play_of p.script) totals s.setting.callers s.seen e.closing.turn record_ e.play.is_open e.play.so_far e.closing.said begins_none
 
+  received_kept : p.op ≡ None → ends_received (past_of record_) ≡ ends_received (past_of s.seen)
+  received_kept free =
+      let c = e.closing.said.first e.play.is_open in
+      ap (λ (h : List (Turn Entry)). ends_received (past_of h)) (e.whole ∙ (e.nothing free ∙ e.closing.seen))
+      ∙ (ap ends_received (past_closed s.setting.callers s.seen e.closing.turn c)
+      ∙ received_stays (c.ends ++ c.down_entries) (past_of s.seen) (silent_before_close s.setting.callers (past_of s.seen) e.closing.turn c))
+
   settled_record : Settled s.setting record_
   settled_record =
       subst (λ (z : Setting). Settled z record_) setting_kept (subst (λ (h : List (Turn Entry)). Settled s''.setting h) (sym e.whole) e.last.sound.settled)
@@ -99,6 +108,7 @@ module _ (totals : Totals) (s s' s'' : SingleView) (p : Player) (record_ : List 
         texts_are = play_closes.texts_are;
         counts_are = play_closes.counts;
         timed = play_closes.timed;
+        received = received_kept;
         closed = play_closes.closed;
         plays = record { so_far = play_closes.so_far; uncancelled = uncancelled_each (past_of record_) (subst (λ (h : List (Turn Entry)). AreUncancelled (past_of h)) (sym e.whole) fin.uncancelled) };
         due = due_each (past_of record_) (subst (λ (h : List (Turn Entry)). AllWereDue (past_of h)) (sym e.whole) fin.due);

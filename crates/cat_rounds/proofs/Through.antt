@@ -8,7 +8,7 @@ use Rattle.sp_history.specs.declared.entry.RecordedAct.{RecordedAct}
 use Rattle.sp_history.specs.declared.entry.RecordedAct.TheVariants.{Recv, Send}
 use Rattle.sp_history.specs.declared.entry.Ending.{Ending}
 use Rattle.sp_history.specs.declared.entry.Entry.{Entry}
-use Rattle.sp_history.specs.declared.entry.Entry.TheVariants.{Begin, Took, Close}
+use Rattle.sp_history.specs.declared.entry.Entry.TheVariants.{Begin, Took, Tick, Close}
 use Rattle.sp_history.specs.declared.setting.Setting.{Setting}
 use Rattle.sp_history.specs.Changes.{none_of}
 use Rattle.sp_history.specs.Once.{end_count}
@@ -19,7 +19,7 @@ use Rattle.sp_history.proofs.Appending.{past_of-append, onto-append}
 use Rattle.sp_history.proofs.OnceHolds.{same_op-refl, ends_once}
 use Rattle.sp_history.proofs.Backing.{legal_allowed}
 use Rattle.cat_play.specs.Plans.{Play}
-use Rattle.cat_play.specs.Scripts.{under_way, last_result, last_send, asks_anew, is_receive_next, counts_for, is_counted, count_in, counted, texts_in, texts, text_of, timed_out_in, timed_out, is_timed_out, over, is_kind}
+use Rattle.cat_play.specs.Scripts.{under_way, last_result, last_send, asks_anew, is_receive_next, counts_for, is_counted, count_in, counted, texts_in, texts, text_of, timed_out_in, timed_out, is_timed_out, over, is_kind, is_received, ends_received}
 use Rattle.cat_play.specs.Playing.{PlaysSoFar, is_left, is_surveyor, waits_for_pipe, deadline_for, same_option, carries_data, is_spaced, is_send}
 use Rattle.sp_ends.specs.Entries.{moves_calls}
 use Rattle.cat_play.specs.Steps.{is_close, MayPlay, HasOne}
@@ -72,6 +72,15 @@ timed_step receives _ past h = refl
 
 pub timed_in_stays : (receives : Bool) (entries past : List Entry) → none_of moves_calls entries ≡ true → timed_out_in receives (onto entries past) ≡ timed_out_in receives past
 timed_in_stays receives = stays (timed_out_in receives) (timed_step receives)
+
+received_step : (e : Entry) (past : List Entry) → moves_calls e ≡ false → ends_received (e ∷ past) ≡ ends_received past
+received_step (Begin op k c act d) past h = cc
+received_step (Took op k) past h = cc
+received_step (Tick t due) past h = cc
+received_step _ past h = refl
+
+pub received_stays : (entries past : List Entry) → none_of moves_calls entries ≡ true → ends_received (onto entries past) ≡ ends_received past
+received_stays = stays ends_received received_step
 
 act_step : (op : OpName) (e : Entry) (past : List Entry) → moves_calls e ≡ false → act_of (e ∷ past) op ≡ act_of past op
 act_step op (Begin other k c act d) past h = cc
@@ -202,6 +211,7 @@ pub record TookLeaves (z : Setting) (play : Play) (op : OpName) (ending : Ending
   pub open_ : is_closed (past_of h') ≡ false
   pub free : under_way (past_of h') ≡ None
   pub result : last_result (past_of h') ≡ Some ending
+  pub received : ends_received (past_of h') ≡ is_received (Some ending)
   pub sent : last_send (past_of h') ≡ last_send (past_of h)
   pub count : counted z play (past_of h') ≡ (if counts_for play.role (is_some play.body) (asks_anew z (past_of h)) (Some ending) then counted z play (past_of h) + 1 else counted z play (past_of h))
   pub texts_are : texts play (past_of h') ≡ texts play (past_of h) ++ text_of play (Some ending)
@@ -252,6 +262,7 @@ took_leaves z play h t early late op k ending role legal one open_ found =
       open_ = open_more;
       free = upon under_way under_way_stays h t _ early late one;
       result = upon last_result last_result_stays h t _ early late one ∙ there;
+      received = upon ends_received received_stays h t _ early late one ∙ rw (closed_stays early (past_of h) one.before ∙ open_) (ap is_received there);
       sent = through last_send last_send_stays h t _ early late one refl;
       count = counts;
       texts_are = prints;

@@ -34,7 +34,7 @@ use Rattle.sp_ends.specs.Entries.{each}
 use Rattle.cat_play.specs.Playing.{Plays}
 use Rattle.sp_ends.specs.LinkRecords.{times_out_rightly}
 use Rattle.cat_play.specs.Running.{ListensTwice, run_setting}
-use Rattle.cat_play.specs.Scripts.{texts, counted, timed_out}
+use Rattle.cat_play.specs.Scripts.{texts, counted, timed_out, ends_received}
 use Rattle.cat_play.specs.Spending.{listens_of, dials_of}
 use Rattle.sp_ends.specs.Entries.{AddsNone, moves_ends}
 use Rattle.sp_ends.specs.declared.error.EndError.{EndError}
@@ -42,7 +42,7 @@ use Rattle.cat_rounds.specs.declared.player.Player.{Player}
 use Rattle.cat_rounds.specs.Lasting.{play_of}
 use Rattle.cat_rounds.specs.PlayerSteps.{Sinks}
 use Rattle.cat_rounds.specs.Parts.{RunPartsView}
-use Rattle.cat_rounds.specs.RunRounds.{AreCleared, WentOrOver, PacedTo, LinksStand, RunStands, is_dry_at}
+use Rattle.cat_rounds.specs.RunRounds.{AreCleared, is_failed_run, WentOrOver, PacedTo, LinksStand, RunStands, is_dry_at}
 
 -- ---- Plans
 
@@ -147,7 +147,7 @@ pub record Follows {L : Type 0} (result : Status) (es : List End) (s : SingleVie
   pub paced : PacedTo result pace pace' (past_of s.seen)
   pub once : ListensOnce result es
   pub asked : (s.seen ≡ []) ⊎ (length e.listeners ≡ listens_of es) × (length e.dialers ≡ dials_of es)
-  pub sinks : Sinks (result ≡ status.OutFault) out out'
+  pub sinks : Sinks (is_failed_run result) out out'
 
 -- an open run that may follow a plan with these ends
 abbrev pub MayFollow : {L : Type 0} → (L → LinkView) → List End → RunPartsView L → NetView → Type 0
@@ -170,6 +170,8 @@ pub record FinishesTo {L : Type 0} (seen : L → LinkView) (start : Beginning) (
   pub texts_are : texts (play_of p.script) (past_of record_) ≡ texts (play_of p.script) (past_of s.seen)
   pub counts_are : counted s.setting (play_of p.script) (past_of record_) ≡ counted s.setting (play_of p.script) (past_of s.seen)
   pub timed : (receives : Bool) → timed_out receives (past_of record_) ≡ timed_out receives (past_of s.seen)
+  -- where nothing was under way, nothing is collected after the close
+  pub received : p.op ≡ None → ends_received (past_of record_) ≡ ends_received (past_of s.seen)
   pub closed : IsTrue (is_closed (past_of record_))
   pub plays : Plays s.setting (play_of p.script) record_
   pub due : IsTrue (each times_out_rightly (past_of record_))

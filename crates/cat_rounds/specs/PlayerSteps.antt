@@ -1,5 +1,5 @@
 -- What a step of the play does.
-use Rattle.std.specs.Prelude.{◌≡◌, ◌==◌, ◌≤◌, ◌-◌, ◌++◌, ℕ, ⊤, true, false, Bool, not, ◌&&◌, ◌||◌, List, Option, Some, is_some, is_none, None, if◌then◌else◌, ◌⊎◌}
+use Rattle.std.specs.Prelude.{◌≡◌, ◌==◌, ◌-◌, ◌++◌, ℕ, ⊤, true, false, Bool, not, ◌&&◌, ◌||◌, IsTrue, List, Option, Some, is_some, is_none, None, if◌then◌else◌, ◌⊎◌}
 use Rattle.turn_lock.specs.declared.turn.Turn.{Turn}
 use Rattle.sp_base.specs.Outside.{grown, Rose}
 use Rattle.sp_base.specs.Views.{SinkView}
@@ -17,7 +17,7 @@ use Rattle.core_state.specs.declared.outcome.Outcome.{Outcome}
 use Rattle.core_state.specs.declared.outcome.Outcome.TheVariants as outcomes
 use Rattle.sp_socket.specs.Singles.{SingleView, IsSound, IsNow}
 use Rattle.cat_text.specs.Printing.{print}
-use Rattle.cat_play.specs.Scripts.{texts}
+use Rattle.cat_play.specs.Scripts.{texts, ends_received}
 use Rattle.cat_play.specs.Playing.{is_surveyor}
 use Rattle.cat_play.specs.Running.{IsCutShort}
 use Rattle.sp_ends.specs.Entries.{AddsNone, moves_ends}
@@ -65,16 +65,20 @@ abbrev pub HasPrintedCut : Option (List ℕ) → Option (List ℕ) → List (Tur
 HasPrintedCut before now h p =
     (piece : List ℕ) × IsCutShort (texts (play_of p.script) (past_of h)) piece × (now ≡ grown before piece)
 
+-- the same, where the last text is that of the receive that was collected last, after which nothing was begun
+abbrev pub HasFailed : Option (List ℕ) → Option (List ℕ) → List (Turn Entry) → Player → Type 0
+HasFailed before now h p = HasPrintedCut before now h p × (p.op ≡ None) × IsTrue (ends_received (past_of h))
+
 abbrev pub PrintedAfter : StepResult → Option (List ℕ) → Option (List ℕ) → List (Turn Entry) → Player → Type 0
 PrintedAfter steps.Begun before now h p = HasPrinted before now h p
 PrintedAfter steps.Rests before now h p = HasPrinted before now h p
-PrintedAfter steps.OutFault before now h p = HasPrintedCut before now h p
+PrintedAfter steps.OutFault before now h p = HasFailed before now h p
 PrintedAfter steps.NoMemory before now h p = HasPrintedCut before now h p
 
 abbrev pub PrintedThen : Collecting → Option (List ℕ) → Option (List ℕ) → List (Turn Entry) → Player → Type 0
 PrintedThen collecting.Free before now h p = HasPrinted before now h p
 PrintedThen collecting.NotYet before now h p = HasPrinted before now h p
-PrintedThen collecting.OutFault before now h p = HasPrintedCut before now h p
+PrintedThen collecting.OutFault before now h p = HasFailed before now h p
 PrintedThen collecting.NoMemory before now h p = HasPrintedCut before now h p
 
 -- for any contents of the sink before all texts, this holds of its contents after these turns
@@ -86,10 +90,19 @@ PrintsOn says out out' s s' p p' =
 abbrev pub AddsNoText : Script → SingleView → SingleView → Type 0
 AddsNoText script s s' = texts (play_of script) (past_of s'.seen) ≡ texts (play_of script) (past_of s.seen)
 
--- the sink failed where `failed` says so
-pub record Sinks (failed : Type 0) (old new : SinkView) : Type 0 where
-  pub later : old.faults ≤ new.faults
-  pub fault : failed → Rose old.faults new.faults
+-- the sink failed (true), or counted no fault
+abbrev pub Sinks : Bool → SinkView → SinkView → Type 0
+Sinks true old new = Rose old.faults new.faults
+Sinks false old new = new.faults ≡ old.faults
+
+-- the result is that the output failed
+abbrev pub is_failed_step : StepResult → Bool
+is_failed_step steps.OutFault = true
+is_failed_step _ = false
+
+abbrev pub is_failed_collect : Collecting → Bool
+is_failed_collect collecting.OutFault = true
+is_failed_collect _ = false
 
 -- ---- Collecting
 

@@ -23,7 +23,7 @@ use Rattle.cat_rounds.specs.declared.rounds.Round.TheVariants as rounds
 use Rattle.cat_rounds.specs.declared.rounds.Going.{Going}
 use Rattle.cat_rounds.specs.declared.rounds.Going.TheVariants as goings
 use Rattle.cat_rounds.specs.Lasting.{PlayStands, HasPrinted, MayTick, HasPlayed, HasServed}
-use Rattle.cat_rounds.specs.PlayerSteps.{HasPrintedCut, PrintsOn, SameScript}
+use Rattle.cat_rounds.specs.PlayerSteps.{HasPrintedCut, HasFailed, PrintsOn, SameScript}
 use Rattle.sp_ends.specs.EndsTurns.{SameEnds}
 use Rattle.cat_rounds.specs.declared.stillness.Stillness.{Stillness}
 use Rattle.cat_rounds.specs.Parts.{RunPartsView}
@@ -71,8 +71,13 @@ GoesTo goings.NoMemory s p = ⊤
 abbrev pub PrintsGoing : Going → Option (List ℕ) → Option (List ℕ) → List (Turn Entry) → Player → Type 0
 PrintsGoing (goings.Rests moved) before now h p = HasPrinted before now h p
 PrintsGoing goings.Over before now h p = HasPrinted before now h p
-PrintsGoing goings.OutFault before now h p = HasPrintedCut before now h p
+PrintsGoing goings.OutFault before now h p = HasFailed before now h p
 PrintsGoing goings.NoMemory before now h p = HasPrintedCut before now h p
+
+-- the result is that the output failed
+abbrev pub is_failed_part : Going → Bool
+is_failed_part goings.OutFault = true
+is_failed_part _ = false
 
 -- ---- Rounds
 
@@ -96,9 +101,17 @@ Drains result now before s p after =
     (taken : ℕ) × (after ≡ Some (noted_still before taken now)) × DrainsFor result now s p (noted_still before taken now)
 
 abbrev pub PrintsRound : Round → Option (List ℕ) → Option (List ℕ) → List (Turn Entry) → Player → Type 0
-PrintsRound (rounds.Ends status.OutFault) before now h p = HasPrintedCut before now h p
+PrintsRound (rounds.Ends status.OutFault) before now h p = HasFailed before now h p
 PrintsRound (rounds.Ends status.NoMemory) before now h p = HasPrintedCut before now h p
 PrintsRound _ before now h p = HasPrinted before now h p
+
+abbrev pub is_failed_run : Status → Bool
+is_failed_run status.OutFault = true
+is_failed_run _ = false
+
+abbrev pub is_failed_round : Round → Bool
+is_failed_round (rounds.Goes moved) = false
+is_failed_round (rounds.Ends why) = is_failed_run why
 
 -- the names were dialed and asked once, in the registry that the round found, and the round leaves it like that
 abbrev pub TurnsNames : {L : Type 0} → ℕ → EndsView L → EndsView L → Registry → Registry → Type 0
@@ -148,7 +161,7 @@ pub record PacedTo (s : Status) (old new : PaceView) (past : List Entry) : Type 
 
 -- the contents of the sink when the rounds ended like this
 abbrev pub PrintsTo : Status → Option (List ℕ) → Option (List ℕ) → List (Turn Entry) → Player → Type 0
-PrintsTo status.OutFault before now h p = HasPrintedCut before now h p
+PrintsTo status.OutFault before now h p = HasFailed before now h p
 PrintsTo status.NoMemory before now h p = HasPrintedCut before now h p
 PrintsTo _ before now h p = HasPrinted before now h p
 

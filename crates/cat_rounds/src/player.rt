@@ -8,7 +8,7 @@ ghost use Rattle.cat_play.specs.Playing.{after_seconds, is_within, is_left, wait
 ghost use Rattle.sp_socket.specs.Singles.{IsSound};
 ghost use Rattle.cat_rounds.specs.Lasting.{play_of, is_survey_over, IsUnderWay, IsNewPlayer};
 ghost use Rattle.sp_history.specs.Setting.{floods};
-ghost use Rattle.cat_rounds.specs.PlayerSteps.{PrintsOn, AddsNoText, IsKept, KnowsPipes, Stands, GoesOnBy, SameScript, PrintedAfter, PrintedThen, Sinks, Puts, PutsPiece, PutsFor, NotedAs, Rested, counts_one, counts_for_last, over_for, step_for, gone_for, CollectsLast};
+ghost use Rattle.cat_rounds.specs.PlayerSteps.{PrintsOn, AddsNoText, IsKept, KnowsPipes, Stands, GoesOnBy, SameScript, PrintedAfter, PrintedThen, Sinks, is_failed_step, is_failed_collect, Puts, PutsPiece, PutsFor, NotedAs, Rested, counts_one, counts_for_last, over_for, step_for, gone_for, CollectsLast};
 
 use crate::next::{LastCollected, counts, floods, receives_next};
 use cat_text::{Format, TopicList, push_text};
@@ -176,7 +176,7 @@ impl Player {
         ensures goes_on { GoesOnBy single.old single.new }
         ensures rested { Rested result single.new self.new }
         ensures printed { PrintsOn (PrintedAfter result) (S.seen out.old) (S.seen out.new) single.old single.new self.old self.new }
-        ensures sinks { Sinks (result ≡ StepResult.OutFault) (S.seen out.old) (S.seen out.new) }
+        ensures sinks { Sinks (is_failed_step result) (S.seen out.old) (S.seen out.new) }
         ensures begun { result ≡ StepResult.Begun → is_some self.new.op ≡ true }
         ensures kept { result ≡ StepResult.Rests → IsKept self.old.op self.new.op }
     {
@@ -205,7 +205,7 @@ impl Player {
         ensures left { is_left (past_of single.new.seen) ≡ false }
         ensures busy { result ≡ Collecting.NotYet → is_some (under_way (past_of single.new.seen)) ≡ true }
         ensures printed { PrintsOn (PrintedThen result) (S.seen out.old) (S.seen out.new) single.old single.new self.old self.new }
-        ensures sinks { Sinks (result ≡ Collecting.OutFault) (S.seen out.old) (S.seen out.new) }
+        ensures sinks { Sinks (is_failed_collect result) (S.seen out.old) (S.seen out.new) }
         ensures pipes { (has_pipe : Bool) → KnowsPipes has_pipe single.old self.old → KnowsPipes has_pipe single.new self.new }
     {
         let Some(op) = self.op.take() else {
@@ -225,7 +225,7 @@ impl Player {
         requires due { self.old.due ≡ Some 0 → ⊥ }
         ensures noted { NotedAs (is_survey_over self.old.last_send now) outcome self.old self.new }
         ensures printed { PutsFor outcome result self.new (S.seen out.old).text (S.seen out.new).text }
-        ensures sinks { Sinks (result ≡ Collecting.OutFault) (S.seen out.old) (S.seen out.new) }
+        ensures sinks { Sinks (is_failed_collect result) (S.seen out.old) (S.seen out.new) }
     {
         match outcome {
             Outcome::Received(m) => {
@@ -309,7 +309,7 @@ impl Player {
     fn print<S: Sink>(&mut self, m: &Message, out: &mut S) -> Collecting
         ensures same { self.new ≡ record self.old { text = self.new.text } }
         ensures puts { Puts result self.old m.now (S.seen out.old).text (S.seen out.new).text }
-        ensures sinks { Sinks (result ≡ Collecting.OutFault) (S.seen out.old) (S.seen out.new) }
+        ensures sinks { Sinks (is_failed_collect result) (S.seen out.old) (S.seen out.new) }
     {
         match self.script.format {
             Format::None => Collecting::Free,
@@ -458,6 +458,7 @@ impl Player {
         requires ended { AllEnded single.old.seen }
         requires sound { IsSound single.old }
         ensures finished { CollectsLast single.old single.new }
+        ensures none { self.op ≡ None → single.new.seen ≡ single.old.seen }
     {
         let Player {
             alloc: _,
@@ -502,7 +503,7 @@ fn is_before(now: Tick, since: Tick, pause: u64) -> bool
 // Puts a piece out, if it has a byte.
 fn put<S: Sink>(out: &mut S, piece: &[u8]) -> Collecting
     ensures puts { PutsPiece result piece.now (S.seen out.old).text (S.seen out.new).text }
-    ensures sinks { Sinks (result ≡ Collecting.OutFault) (S.seen out.old) (S.seen out.new) }
+    ensures sinks { Sinks (is_failed_collect result) (S.seen out.old) (S.seen out.new) }
 {
     if piece.is_empty() {
         return Collecting::Free;

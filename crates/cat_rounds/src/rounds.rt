@@ -7,7 +7,7 @@ ghost use Rattle.cat_rounds.specs.PlayerSteps.{AddsNoText, KnowsPipes, GoesOnBy,
 ghost use Rattle.cat_rounds.specs.Late.{IsLateBy, RoundIsLate, StallsMore};
 ghost use Rattle.cat_rounds.specs.Parts.{IsAt, StaysAt};
 ghost use Rattle.cat_rounds.specs.Resting.{BeginsNothing, IsAtRest, MovesStill, RoundMoves};
-ghost use Rattle.cat_rounds.specs.RunRounds.{RunIsOpen, RunGoesOn, RoundGoesOn, SameRun, GoesTo, RoundGoesTo, Drains, WentOrOver, PacedTo, TicksOnce, PrintsRun, PrintsTo, PrintsGoing, PrintsRound, TurnsNames, IsDryAt, past_now, has_more};
+ghost use Rattle.cat_rounds.specs.RunRounds.{RunIsOpen, RunGoesOn, RoundGoesOn, SameRun, GoesTo, RoundGoesTo, Drains, WentOrOver, PacedTo, TicksOnce, PrintsRun, PrintsTo, PrintsGoing, PrintsRound, TurnsNames, IsDryAt, past_now, has_more, is_failed_part, is_failed_round, is_failed_run};
 
 use crate::player::{PlayEnd, StepResult};
 use crate::run_parts::RunParts;
@@ -62,12 +62,12 @@ impl<R: Wait, P: Proto, L: Link> RunParts<'_, R, P, L> {
         ensures went { WentOrOver result self.new.single self.new.player (S.seen out.old) (S.seen out.new) (Pa.seen pace.new) }
         ensures pace { PacedTo result (Pa.seen pace.old) (Pa.seen pace.new) (past_of self.new.single.seen) }
         ensures printed { PrintsRun (PrintsTo result) (S.seen out.old) (S.seen out.new) self.old self.new }
-        ensures sinks { Sinks (result ≡ Status.OutFault) (S.seen out.old) (S.seen out.new) }
+        ensures sinks { Sinks (is_failed_run result) (S.seen out.old) (S.seen out.new) }
         ensures same { SameRun self.old self.new }
         ensures late { IsLateBy 1 self.new.single self.new.player }
     {
         let mut moved = true;
-        'rounds: for _ in 0..u64::MAX {
+        'rounds: for _ in self.rt.forever() {
             match pace.turn(moved) {
                 Paced::Over => return Status::Over,
                 Paced::At(now) => match self.round(net, out, now) {
@@ -76,8 +76,7 @@ impl<R: Wait, P: Proto, L: Link> RunParts<'_, R, P, L> {
                 },
             }
         }
-        // More rounds than can be counted.
-        Status::NoMemory
+        unreachable!()
     }
 
     // One round.
@@ -90,7 +89,7 @@ impl<R: Wait, P: Proto, L: Link> RunParts<'_, R, P, L> {
         ensures ticked { TicksOnce now self.old.single self.new.single }
         ensures went { RoundGoesTo result self.new.single self.new.player }
         ensures printed { PrintsRun (PrintsRound result) (S.seen out.old) (S.seen out.new) self.old self.new }
-        ensures sinks { Sinks (result ≡ Round.Ends Status.OutFault) (S.seen out.old) (S.seen out.new) }
+        ensures sinks { Sinks (is_failed_round result) (S.seen out.old) (S.seen out.new) }
         ensures same { SameRun self.old self.new }
         ensures names { TurnsNames now self.old.ends self.new.ends self.old.inproc self.new.inproc }
         ensures late { RoundIsLate result self.new.single self.new.player }
@@ -123,7 +122,7 @@ impl<R: Wait, P: Proto, L: Link> RunParts<'_, R, P, L> {
         ensures goes_on { GoesOnBy self.old.single self.new.single }
         ensures went { GoesTo result self.new.single self.new.player }
         ensures printed { PrintsRun (PrintsGoing result) (S.seen out.old) (S.seen out.new) self.old self.new }
-        ensures sinks { Sinks (result ≡ Going.OutFault) (S.seen out.old) (S.seen out.new) }
+        ensures sinks { Sinks (is_failed_part result) (S.seen out.old) (S.seen out.new) }
         ensures same { SameScript self.old.player self.new.player × (self.new.ends ≡ self.old.ends) }
         ensures names { self.new.inproc ≡ self.old.inproc }
         ensures over { self.old.player.over ≢ PlayEnd.Open → result ≡ Going.Over }
@@ -153,7 +152,7 @@ impl<R: Wait, P: Proto, L: Link> RunParts<'_, R, P, L> {
         ensures turns { length self.old.single.seen + 1 ≤ length self.new.single.seen }
         ensures went { GoesTo result self.new.single self.new.player }
         ensures printed { PrintsRun (PrintsGoing result) (S.seen out.old) (S.seen out.new) self.old self.new }
-        ensures sinks { Sinks (result ≡ Going.OutFault) (S.seen out.old) (S.seen out.new) }
+        ensures sinks { Sinks (is_failed_part result) (S.seen out.old) (S.seen out.new) }
         ensures same { SameScript self.old.player self.new.player × (self.new.ends ≡ self.old.ends) }
         ensures names { self.new.inproc ≡ self.old.inproc }
     {
@@ -177,7 +176,7 @@ impl<R: Wait, P: Proto, L: Link> RunParts<'_, R, P, L> {
         ensures kept { result ≡ Going.Rests false → BeginsNothing self.old.single self.new.single }
         ensures went { GoesTo result self.new.single self.new.player }
         ensures printed { PrintsRun (PrintsGoing result) (S.seen out.old) (S.seen out.new) self.old self.new }
-        ensures sinks { Sinks (result ≡ Going.OutFault) (S.seen out.old) (S.seen out.new) }
+        ensures sinks { Sinks (is_failed_part result) (S.seen out.old) (S.seen out.new) }
         ensures same { SameScript self.old.player self.new.player × (self.new.ends ≡ self.old.ends) }
         ensures names { self.new.inproc ≡ self.old.inproc }
     {

@@ -4,7 +4,7 @@ ghost use Rattle.sp_history.specs.Legal.{has_topic};
 ghost use Rattle.sp_history.specs.Past.{past_of, topics};
 ghost use Rattle.sp_history.specs.Setting.{has_topics};
 ghost use Rattle.cat_rounds.specs.PlayerSteps.{Sinks};
-ghost use Rattle.cat_rounds.specs.RunRounds.{RunIsOpen, RunGoesOn, SameRun, WentOrOver, PacedTo, PrintsRun, PrintsTo, IsDryAt};
+ghost use Rattle.cat_rounds.specs.RunRounds.{RunIsOpen, RunGoesOn, SameRun, WentOrOver, PacedTo, PrintsRun, PrintsTo, IsDryAt, is_failed_run};
 ghost use Rattle.cat_rounds.specs.Late.{IsLateBy};
 ghost use Rattle.cat_rounds.specs.SubscribedTopics.{CanSubscribe, IsBefore, Prepares, IsOnFor, AreOnFor};
 
@@ -73,7 +73,7 @@ impl<R: Wait, P: Proto, L: Link> RunParts<'_, R, P, L> {
         ensures went { WentOrOver result self.new.single self.new.player (S.seen out.old) (S.seen out.new) (Pa.seen pace.new) }
         ensures pace { PacedTo result (Pa.seen pace.old) (Pa.seen pace.new) (past_of self.new.single.seen) }
         ensures printed { PrintsRun (PrintsTo result) (S.seen out.old) (S.seen out.new) self.old self.new }
-        ensures sinks { Sinks (result ≡ Status.OutFault) (S.seen out.old) (S.seen out.new) }
+        ensures sinks { Sinks (is_failed_run result) (S.seen out.old) (S.seen out.new) }
         ensures same { SameRun self.old self.new }
         ensures late { IsLateBy 1 self.new.single self.new.player }
     {

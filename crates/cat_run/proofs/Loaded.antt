@@ -80,6 +80,7 @@ module _ (net net' : NetView) (pace pace' : PaceView) (sink sink' : SinkView) (f
     spends = r.spends;
     ended = ended s (run_setting plan.role dice) plan data_ play (past_of h) r.ended;
     paced = record { over = r.paced.over; not_over = r.paced.not_over };
+    faultless = r.faultless;
     memory = r.memory;
   }
 

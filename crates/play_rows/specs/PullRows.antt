@@ -1,5 +1,5 @@
 -- Example records of a pull: each with the rules that it breaks, none where it is a play.
-use Rattle.std.specs.Prelude.{◌≡◌, List, [], ◌∷◌, ◌++◌, Some, None, codes}
+use Rattle.std.specs.Prelude.{◌≡◌, true, false, List, [], ◌∷◌, ◌++◌, Some, None, codes}
 use Rattle.sp_base.specs.declared.role.Role.TheVariants.{Pull}
 use Rattle.turn_lock.specs.declared.turn.Turn.{Turn}
 use Rattle.sp_history.specs.declared.entry.Entry.{Entry}
@@ -11,7 +11,9 @@ use Rattle.sp_history.specs.declared.entry.Why.TheVariants as whys
 use Rattle.sp_history.specs.declared.entry.Ending.TheVariants.{Won, Gone}
 use Rattle.sp_history.specs.declared.entry.Entry.TheVariants.{Up, Down, Frame, Quiet, Clear, Taken, Begin, End, Took, Tick, Close}
 use Rattle.sp_history.specs.Frames.{message}
+use Rattle.sp_history.specs.Past.{past_of}
 use Rattle.cat_play.specs.Rules.{broken}
+use Rattle.cat_play.specs.Scripts.{ends_received}
 use Rattle.cat_play.specs.Rules as rules
 use Rattle.play_rows.specs.Rows.{socket, bare, turn, op, unnamed, gives}
 
@@ -188,6 +190,18 @@ cancels =
     ∷ turn (End (op 0 1) (Gone Cancelled 1) ∷ Took (op 0 1) 1 ∷ [])
     ∷ []
 
+-- the run ends at a message that was collected
+abbrev pub ends_there : List (Turn Entry)
+ends_there =
+    turn (Tick 0 [] ∷ [])
+    ∷ turn (Up 1 1 unnamed ∷ [])
+    ∷ turn (Clear 1 ∷ Frame 1 (codes "a") ∷ [])
+    ∷ turn (Begin (op 0 1) 1 0 Recv None ∷ End (op 0 1) (Won (Received (message [] (codes "a")))) ∷ [])
+    ∷ turn (Took (op 0 1) 1 ∷ [])
+    ∷ turn (Clear 1 ∷ Down 1 whys.Closed ∷ Close (record { begun = 1; won = 1; gone = 0; frames = 1; outs = 0; fulls = 0 }) ∷ [])
+    ∷ turn (Taken 1 ∷ [])
+    ∷ []
+
 -- the rules that they break, and what the plays count and print
 pub record PullRows : Type 0 where
   pub one_breaks : broken (socket Pull) (record (bare Pull) { count = Some 1 }) one ≡ []
@@ -211,3 +225,10 @@ pub record PullRows : Type 0 where
   pub goes_on_breaks : broken (socket Pull) (record (bare Pull) { count = Some 1 }) goes_on ≡ rules.Verbs ∷ []
   pub short_deadline_breaks : broken (socket Pull) (record (bare Pull) { recv_timeout = Some 1 }) short_deadline ≡ rules.Deadlines ∷ []
   pub cancels_breaks : broken (socket Pull) (bare Pull) cancels ≡ rules.Uncancelled ∷ []
+  -- where the output failed: a record ends at the message that was collected last; a later tick, a later begin, or a
+  -- collecting after the close is too late
+  pub fails_there : ends_received (past_of ends_there) ≡ true
+  pub ticks_after : ends_received (past_of one) ≡ false
+  pub begins_after : ends_received (past_of goes_on) ≡ false
+  pub collects_after : ends_received (past_of collected_late) ≡ false
+  pub collects_none : ends_received (past_of cancels) ≡ false

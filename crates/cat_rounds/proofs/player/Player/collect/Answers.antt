@@ -7,7 +7,7 @@ use Rattle.cat_rounds.proofs.TopicsStay.{still_on}
 use Rattle.cat_rounds.specs.PlayerSteps.{Stands, NotedAs, PutsFor}
 use Rattle.cat_rounds.proofs.Settling.{settling_silent, settling_linkless}
 use Rattle.cat_rounds.proofs.Begins.{silent_stands, silent_texts, goes_on_by}
-use Rattle.cat_rounds.proofs.CollectedByPlay.{IsCollected, is_collected, busy_is_due, noted_stands, noted_prints, noted_script, stays_busy, not_left, pending_now}
+use Rattle.cat_rounds.proofs.CollectedByPlay.{IsCollected, is_collected, busy_is_due, noted_stands, noted_prints, noted_script, noted_op, stays_busy, not_left, pending_now}
 use Rattle.cat_rounds.proofs.Pipes.{knows_after, noted_sent}
 use Rattle.cat_rounds.proofs.player.Player.collect.Given
 use Rattle.cat_rounds.proofs.player.Player.collect.Goals as goal
@@ -80,7 +80,7 @@ returns-in-Ended-clause-left g c = (collected g c).leaves.left_
 pub returns-in-Ended-clause-printed : goal.returns-in-Ended-clause-printed
 returns-in-Ended-clause-printed g c = λ before had.
     (let said = c.in-Ended.ensures.turn.said in
-    noted_prints c.note.result c.args.single.now c.collect.new.self c.args.self.now c.note.new.self c.in-Some.op said.1.0 said.1.1 before (g.S.Sink.seen c.args.out.now).text (g.S.Sink.seen c.note.new.out).text (collected g c) (noted_script (is_over g c) c.in-Ended.outcome (record c.args.self.now { op = c.take.new.self }) c.note.new.self c.note.ensures.noted) (subst (λ o. PutsFor o c.note.result c.note.new.self (g.S.Sink.seen c.args.out.now).text (g.S.Sink.seen c.note.new.out).text) said.1.3 c.note.ensures.printed) had)
+    noted_prints c.note.result c.args.single.now c.collect.new.self c.args.self.now c.note.new.self c.in-Some.op said.1.0 said.1.1 before (g.S.Sink.seen c.args.out.now).text (g.S.Sink.seen c.note.new.out).text (collected g c) (noted_script (is_over g c) c.in-Ended.outcome (record c.args.self.now { op = c.take.new.self }) c.note.new.self c.note.ensures.noted) (noted_op (is_over g c) c.in-Ended.outcome (record c.args.self.now { op = c.take.new.self }) c.note.new.self c.note.ensures.noted ∙ c.take.ensures.after) (subst (λ o. PutsFor o c.note.result c.note.new.self (g.S.Sink.seen c.args.out.now).text (g.S.Sink.seen c.note.new.out).text) said.1.3 c.note.ensures.printed) had)
 
 pub returns-in-Ended-clause-pipes : goal.returns-in-Ended-clause-pipes
 returns-in-Ended-clause-pipes g c has_pipe was =

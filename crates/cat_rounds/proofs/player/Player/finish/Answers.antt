@@ -9,4 +9,4 @@ unreachable-requires g c =
 
 pub returns : goal.returns
 returns g c =
-    record { finished = collects_last c.args.single.now c.collect.new.self c.collect.result c.in-Some.op c.collect.ensures.turn }
+    record { finished = collects_last c.args.single.now c.collect.new.self c.collect.result c.in-Some.op c.collect.ensures.turn; none = λ free. absurd (let held = c.in-Some.is in cc) }

@@ -23,7 +23,7 @@ finish-wires-requires g c =
     let s = c.self.inside.single in
     let p = c.self.inside.player in
     let last = c.finish.new.single in
-    let e : IsEnding c.close.result s c.close.new.self last p last.seen = record { sound = run.sound; play = run.play; closing = c.close.ensures.turn; last = c.finish.ensures.finished; whole = refl } in
+    let e : IsEnding c.close.result s c.close.new.self last p last.seen = record { sound = run.sound; play = run.play; closing = c.close.ensures.turn; last = c.finish.ensures.finished; nothing = c.finish.ensures.none; whole = refl } in
     record { closed = (play_closes c.close.result s c.close.new.self last p last.seen e).closed }
 
 pub give_all_back-requires : goal.give_all_back-requires
@@ -36,7 +36,7 @@ give_all_back-requires g c =
     let links = subst (λ (v : RunPartsView _). LinksStand g.L.Link.seen start v.single v.ends.links net (is_dry_at v.single)) (sym c.self.view_is) c.requires.stands.1 in
     let last = c.finish.new.single in
     let end = c.finish-wires.result in
-    let e : IsEnding c.close.result s c.close.new.self last p end.record_.turns = record { sound = run.sound; play = run.play; closing = c.close.ensures.turn; last = c.finish.ensures.finished; whole = c.finish-wires.ensures.whole } in
+    let e : IsEnding c.close.result s c.close.new.self last p end.record_.turns = record { sound = run.sound; play = run.play; closing = c.close.ensures.turn; last = c.finish.ensures.finished; nothing = c.finish.ensures.none; whole = c.finish-wires.ensures.whole } in
     record {
       stands = (
         s.setting,
@@ -56,7 +56,7 @@ returns-clause-finished g c = rw (← c.self.view_is) (λ start run.
     let seen = g.L.Link.seen in
     let net = g.N.Net.seen c.args.net.now in
     let net' = g.N.Net.seen c.give_all_back.new.net in
-    let e : IsEnding c.close.result s c.close.new.self last p end.record_.turns = record { sound = run.sound; play = run.play; closing = c.close.ensures.turn; last = c.finish.ensures.finished; whole = c.finish-wires.ensures.whole } in
+    let e : IsEnding c.close.result s c.close.new.self last p end.record_.turns = record { sound = run.sound; play = run.play; closing = c.close.ensures.turn; last = c.finish.ensures.finished; nothing = c.finish.ensures.none; whole = c.finish-wires.ensures.whole } in
     let legal = legal_record c.close.result s c.close.new.self last p end.record_.turns e in
     let closed = (play_closes c.close.result s c.close.new.self last p end.record_.turns e).closed in
     let stands = ends_stand c.close.result s c.close.new.self last p end.record_.turns e seen start net c.self.inside.ends.links run.ends_stand in

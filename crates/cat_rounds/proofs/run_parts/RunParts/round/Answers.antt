@@ -7,6 +7,7 @@ use Rattle.cat_rounds.proofs.Opened.{running_of, at_of, run_of, running_in}
 use Rattle.cat_rounds.proofs.WholeRounds.{HasTicked, MayRound, opens, quiet_stands, quiet_texts, prints_on, quiet_ticks, on_ticks, run_on, names_then, same_played, round_stands, round_prints, cut_nowhere}
 use Rattle.cat_rounds.specs.declared.player.Player.{Player}
 use Rattle.cat_rounds.specs.declared.rounds.Going.TheVariants as goings
+use Rattle.cat_rounds.proofs.Faultless.{round_faultless}
 use Rattle.cat_rounds.proofs.Late.{late_tick, late_quiet, late_on, late_then, ends_late, goes_early, drains_late, open_or}
 use Rattle.cat_rounds.specs.RunRounds.{GoesTo, LinksStand}
 use Rattle.cat_rounds.specs.Resting.{MovesStill}
@@ -342,3 +343,7 @@ returns-in-Over-clause-same g c = rw (← c.self.view_is) (
     let y = c.play-going.ensures in
     let d = c.drain-drained.ensures in
     same_played (record { single = c.self.inside.single; ends = c.self.inside.ends; player = c.self.inside.player; inproc = c.self.inside.inproc; still = c.self.inside.still }) c.drain-drained.new.self c.turn-turn.new.single c.turn-turn.new.self t.same (t.quietly.setting ∙ c.tick.ensures.turn.setting) (d.same.1 ∙ y.same.1) (ap (λ (x : Player). x.script) d.same.0 ∙ y.same.0) (d.goes_on.setting ∙ y.goes_on.setting))
+
+pub returns-in-Over-clause-sinks : goal.returns-in-Over-clause-sinks
+returns-in-Over-clause-sinks g c =
+    round_faultless c.drain-drained.result (g.S.Sink.seen c.args.out.now) (g.S.Sink.seen c.play-going.new.out) c.drain-drained.ensures.fault.0 c.in-Over.ensures.sinks

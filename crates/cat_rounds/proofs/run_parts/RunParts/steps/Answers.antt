@@ -40,7 +40,7 @@ steps-preserved g c =
     let i = c.steps.invariant in
     record {
       stands = e.stands;
-      along = along_then c.args.self.now.single c.steps.self-inside.single c.step.new.single c.args.self.now.player c.steps.self-inside.player c.step.new.self (g.S.Sink.seen c.args.out.now) (g.S.Sink.seen c.steps.out) (g.S.Sink.seen c.step.new.out) i.along (record { goes_on = e.goes_on; script = e.script; printed = e.printed; later = e.sinks.later });
+      along = along_then c.args.self.now.single c.steps.self-inside.single c.step.new.single c.args.self.now.player c.steps.self-inside.player c.step.new.self (g.S.Sink.seen c.args.out.now) (g.S.Sink.seen c.steps.out) (g.S.Sink.seen c.step.new.out) i.along (record { goes_on = e.goes_on; script = e.script; printed = e.printed; faultless = e.sinks });
       served = served_on c.steps.self-inside.single c.step.new.single e.goes_on i.served;
       played = λ _. e.rested;
       pipes = λ flood body free none. elim (none_held c.step.new.self.op (e.begun refl) free) [ ];
