@@ -11,7 +11,7 @@ import subprocess
 import sys
 import time
 
-from outside import THEIRS, free_port
+from outside import PULL, PUSH, REP, REQ, THEIRS, frame, free_port, greeting
 
 HERE = os.path.dirname(os.path.abspath(__file__))
 FOLDER = os.environ.get("EXAMPLES")
@@ -91,6 +91,22 @@ def pull_outlives_a_push_that_is_killed():
     assert status == 0 and len(out) == 10 and set(out) == {"first", "second"}, (out, err, status)
 
 
+@check("ex_pull", "theirs")
+def pull_outlives_a_message_that_is_too_long():
+    port = free_port()
+    at = f"tcp://127.0.0.1:{port}"
+    pull = ours("ex_pull", at)
+    listening(port)
+    with socket.create_connection(("127.0.0.1", port)) as peer:
+        peer.settimeout(10)
+        peer.sendall(greeting(PUSH) + (1_048_577).to_bytes(8, "big"))
+        assert peer.recv(8) == greeting(PULL) and peer.recv(1) == b""
+    for i in range(10):
+        assert theirs("--push", "--dial", at, "--data", f"message {i}").returncode == 0
+    out, err, status = ended(pull)
+    assert (out, status) == ([f"message {i}" for i in range(10)], 0), (out, err, status)
+
+
 @check("ex_req", "theirs")
 def req_prints_the_reply_of_their_rep():
     port = free_port()
@@ -153,6 +169,26 @@ def rep_outlives_a_req_that_is_killed():
         assert asked.stdout.strip() == f"request {i}", asked
     out, err, status = ended(rep)
     assert status == 0, (out, err, status)
+
+
+@check("ex_rep")
+def a_slow_req_has_every_reply():
+    """A requester that reads nothing before its ten requests are sent, and then slowly, gets 10 MB whole."""
+    port = free_port()
+    rep = ours("ex_rep", f"tcp://127.0.0.1:{port}")
+    listening(port)
+    frames = [frame((0x80000000 | i).to_bytes(4, "big") + bytes([i]) * 1_000_000) for i in range(10)]
+    with socket.socket() as peer:
+        peer.setsockopt(socket.SOL_SOCKET, socket.SO_RCVBUF, 65_536)
+        peer.settimeout(20)
+        peer.connect(("127.0.0.1", port))
+        peer.sendall(greeting(REQ) + b"".join(frames))
+        came = b""
+        while piece := peer.recv(100_000):
+            came += piece
+            time.sleep(0.005)
+    out, err, status = ended(rep)
+    assert status == 0 and came == greeting(REP) + b"".join(frames), (len(came), out, err, status)
 
 
 @check("ex_sub", "theirs")

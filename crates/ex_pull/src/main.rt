@@ -2,7 +2,7 @@
 //! `nngcat --push --dial tcp://127.0.0.1:5578 --data hello`. The address is the program's argument.
 #![tactic(auto)]
 
-use anyhow::{Result, anyhow, bail};
+use anyhow::{Context, Result, bail};
 use proto_pipeline::Pull;
 use sp_base::{Link, Net, Pace, Role};
 use sp_node::{Node, NodeEnds};
@@ -18,22 +18,17 @@ fn receive<R: Wait + Print + AllocGlobal, P: Proto, L: Link, N: Net<L = L>, C: P
     pull: &mut Node<'_, R, P, L, N, C>,
 ) -> Result<()> {
     for _ in 0..10 {
-        match pull.recv(Some(10_000)) {
-            Ok(message) => {
-                let text = String::from_utf8_lossy(rt.alloc(), message.body())?;
-                println!(rt; "{text}")?;
-            }
-            Err(why) => return Err(anyhow!("{why}")),
-        }
+        let message = pull.recv(Some(10_000))?;
+        let text = String::from_utf8_lossy(rt.alloc(), message.body())?;
+        println!(rt; "{text}")?;
     }
     Ok(())
 }
 
 fn main(rt: HostRuntime) -> Result<()> {
     let alloc = rt.alloc();
-    let Some(address) = env::args(&rt)?.skip(1).next() else {
-        bail!("usage: ex_pull tcp://127.0.0.1:5578")
-    };
+    let mut words = env::args(&rt)?.skip(1);
+    let address = words.next().context("usage: ex_pull tcp://127.0.0.1:5578")?;
     let (net, pace) = real_side(&rt)?;
     let Ok(machine) = Pull::new(alloc, Options::usual(Role::Pull, 0), false) else {
         bail!("Out of memory")
@@ -41,12 +36,9 @@ fn main(rt: HostRuntime) -> Result<()> {
     let Ok(mut ends) = NodeEnds::open(&rt, machine, net, pace, 0) else {
         bail!("Out of memory")
     };
-    let listened = ends.listen(&address);
+    let listened = ends.listen(&address).context(&address);
     let mut pull = ends.start();
-    let received = match listened {
-        Ok(()) => receive(&rt, &mut pull),
-        Err(why) => Err(anyhow!("{address}: {why}")),
-    };
+    let received = listened.and_then(|()| receive(&rt, &mut pull));
     let _ = pull.finish();
     received
 }

@@ -2,7 +2,7 @@
 //! `nngcat --req --dial tcp://127.0.0.1:5581 --data hello`. The address is the program's argument.
 #![tactic(auto)]
 
-use anyhow::{Result, anyhow, bail};
+use anyhow::{Context, Result, bail};
 use proto_reqrep::Reply;
 use sp_base::{Link, Net, Pace, Role};
 use sp_msg::Message;
@@ -19,25 +19,17 @@ fn answer<R: Wait + Print + AllocGlobal, P: Proto, L: Link, N: Net<L = L>, C: Pa
     rep: &mut Node<'_, R, P, L, N, C>,
 ) -> Result<()> {
     for _ in 0..10 {
-        let answered = match rep.recv(Some(10_000)) {
-            Ok(request) => match Message::from_body(rt.alloc(), request.body()) {
-                Ok(reply) => rep.send(reply, Some(10_000)),
-                Err(_) => bail!("Out of memory"),
-            },
-            Err(why) => Err(why),
-        };
-        if let Err(why) = answered {
-            return Err(anyhow!("{why}"));
-        }
+        let request = rep.recv(Some(10_000))?;
+        let copy = Message::from_body(rt.alloc(), request.body()).ok();
+        rep.send(copy.context("Out of memory")?, Some(10_000))?;
     }
     Ok(())
 }
 
 fn main(rt: HostRuntime) -> Result<()> {
     let alloc = rt.alloc();
-    let Some(address) = env::args(&rt)?.skip(1).next() else {
-        bail!("usage: ex_rep tcp://127.0.0.1:5581")
-    };
+    let mut words = env::args(&rt)?.skip(1);
+    let address = words.next().context("usage: ex_rep tcp://127.0.0.1:5581")?;
     let (net, pace) = real_side(&rt)?;
     let Ok(machine) = Reply::new(alloc, Options::usual(Role::Rep, 0), false) else {
         bail!("Out of memory")
@@ -45,12 +37,9 @@ fn main(rt: HostRuntime) -> Result<()> {
     let Ok(mut ends) = NodeEnds::open(&rt, machine, net, pace, 0) else {
         bail!("Out of memory")
     };
-    let listened = ends.listen(&address);
+    let listened = ends.listen(&address).context(&address);
     let mut rep = ends.start();
-    let answered = match listened {
-        Ok(()) => answer(&rt, &mut rep),
-        Err(why) => Err(anyhow!("{address}: {why}")),
-    };
+    let answered = listened.and_then(|()| answer(&rt, &mut rep));
     let mut end = rep.finish();
     let _ = end.net.finish(&mut end.pace);
     answered

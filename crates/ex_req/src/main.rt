@@ -2,7 +2,7 @@
 //! `nngcat --rep --listen tcp://127.0.0.1:5579 --data hello`. The address is the program's argument.
 #![tactic(auto)]
 
-use anyhow::{Result, anyhow, bail};
+use anyhow::{Context, Result, bail};
 use proto_reqrep::Request;
 use sp_base::{Link, Net, Pace, Role};
 use sp_msg::Message;
@@ -21,24 +21,17 @@ fn ask<R: Wait + Print + AllocGlobal, P: Proto, L: Link, N: Net<L = L>, C: Pace>
     let Ok(question) = Message::from_body(rt.alloc(), b"who is there?") else {
         bail!("Out of memory")
     };
-    if let Err(why) = req.send(question, Some(10_000)) {
-        return Err(anyhow!("{why}"));
-    }
-    match req.recv(Some(10_000)) {
-        Ok(reply) => {
-            let text = String::from_utf8_lossy(rt.alloc(), reply.body())?;
-            println!(rt; "{text}")?;
-            Ok(())
-        }
-        Err(why) => Err(anyhow!("{why}")),
-    }
+    req.send(question, Some(10_000))?;
+    let reply = req.recv(Some(10_000))?;
+    let text = String::from_utf8_lossy(rt.alloc(), reply.body())?;
+    println!(rt; "{text}")?;
+    Ok(())
 }
 
 fn main(rt: HostRuntime) -> Result<()> {
     let alloc = rt.alloc();
-    let Some(address) = env::args(&rt)?.skip(1).next() else {
-        bail!("usage: ex_req tcp://127.0.0.1:5579")
-    };
+    let mut words = env::args(&rt)?.skip(1);
+    let address = words.next().context("usage: ex_req tcp://127.0.0.1:5579")?;
     let (net, pace) = real_side(&rt)?;
     let Ok(machine) = Request::new(alloc, Options::usual(Role::Req, 0), false) else {
         bail!("Out of memory")
@@ -46,12 +39,9 @@ fn main(rt: HostRuntime) -> Result<()> {
     let Ok(mut ends) = NodeEnds::open(&rt, machine, net, pace, 0) else {
         bail!("Out of memory")
     };
-    let dialed = ends.dial(&address);
+    let dialed = ends.dial(&address).context(&address);
     let mut req = ends.start();
-    let asked = match dialed {
-        Ok(()) => ask(&rt, &mut req),
-        Err(why) => Err(anyhow!("{address}: {why}")),
-    };
+    let asked = dialed.and_then(|()| ask(&rt, &mut req));
     let _ = req.finish();
     asked
 }

@@ -2,7 +2,7 @@
 //! `nngcat --pub --listen tcp://127.0.0.1:5580 --data news --interval 1`. The address is the program's argument.
 #![tactic(auto)]
 
-use anyhow::{Result, anyhow, bail};
+use anyhow::{Context, Result, bail};
 use proto_pubsub::Subscribe;
 use sp_base::{Ctx, Link, Net, Pace, Role};
 use sp_node::{Node, NodeEnds};
@@ -17,26 +17,19 @@ fn receive<R: Wait + Print + AllocGlobal, P: Proto, L: Link, N: Net<L = L>, C: P
     rt: &R,
     sub: &mut Node<'_, R, P, L, N, C>,
 ) -> Result<()> {
-    if sub.subscribe(Ctx(0), b"").is_err() {
-        bail!("Out of memory")
-    }
+    sub.subscribe(Ctx(0), b"").ok().context("Out of memory")?;
     for _ in 0..10 {
-        match sub.recv(Some(10_000)) {
-            Ok(message) => {
-                let text = String::from_utf8_lossy(rt.alloc(), message.body())?;
-                println!(rt; "{text}")?;
-            }
-            Err(why) => return Err(anyhow!("{why}")),
-        }
+        let message = sub.recv(Some(10_000))?;
+        let text = String::from_utf8_lossy(rt.alloc(), message.body())?;
+        println!(rt; "{text}")?;
     }
     Ok(())
 }
 
 fn main(rt: HostRuntime) -> Result<()> {
     let alloc = rt.alloc();
-    let Some(address) = env::args(&rt)?.skip(1).next() else {
-        bail!("usage: ex_sub tcp://127.0.0.1:5580")
-    };
+    let mut words = env::args(&rt)?.skip(1);
+    let address = words.next().context("usage: ex_sub tcp://127.0.0.1:5580")?;
     let (net, pace) = real_side(&rt)?;
     let Ok(machine) = Subscribe::new(alloc, Options::usual(Role::Sub, 0), false) else {
         bail!("Out of memory")
@@ -44,12 +37,9 @@ fn main(rt: HostRuntime) -> Result<()> {
     let Ok(mut ends) = NodeEnds::open(&rt, machine, net, pace, 0) else {
         bail!("Out of memory")
     };
-    let dialed = ends.dial(&address);
+    let dialed = ends.dial(&address).context(&address);
     let mut sub = ends.start();
-    let received = match dialed {
-        Ok(()) => receive(&rt, &mut sub),
-        Err(why) => Err(anyhow!("{address}: {why}")),
-    };
+    let received = dialed.and_then(|()| receive(&rt, &mut sub));
     let _ = sub.finish();
     received
 }

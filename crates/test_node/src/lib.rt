@@ -1,7 +1,10 @@
-//! Tests of nodes over memory: messages over a link and within the process, refusals, and their texts.
+//! Tests of nodes over memory: messages over a link and within the process, how a node ends, refusals, and their texts.
 #![tactic(auto)]
 
 #[cfg(test)]
 mod checks;
 #[cfg(test)]
+mod ends;
+#[cfg(test)]
 mod nodes;
+pub mod slow;

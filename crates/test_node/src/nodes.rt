@@ -148,11 +148,12 @@ fn refusals_have_texts(rt: HostRuntime) {
     }
     says(&rt, ends.dial("tcp://127.0.0.1:5557"), "Resource busy");
     let mut pull = ends.start();
-    let why = match pull.recv(Some(5)) {
-        Ok(_) => WaitError::Other,
-        Err(why) => why,
-    };
-    let said = made(&rt, format!(in alloc; "{why}"));
-    same(&rt, said.as_str(), "Timed out");
+    match pull.recv(Some(5)) {
+        Ok(_) => panic!(&rt; "a message"),
+        Err(why) => {
+            let said = made(&rt, format!(in alloc; "{why}"));
+            same(&rt, said.as_str(), "Timed out");
+        }
+    }
     let _ = pull.finish();
 }
