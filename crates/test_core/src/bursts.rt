@@ -148,7 +148,9 @@ fn a_survey_keeps_only_what_no_receive_waits_for(rt: HostRuntime) {
         put 1 80000000's
         put 2 80000000's
     ";
-    surveyor_plays_with(&rt, with_queue(Role::Surveyor, 2), false, calls, wires);
+    let mut options = Options::usual(Role::Surveyor, 0);
+    options.queue = 2;
+    surveyor_plays_with(&rt, options, false, calls, wires);
 }
 
 #[test]

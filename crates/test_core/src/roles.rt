@@ -256,7 +256,9 @@ pub fn surveyor_plays_with<R: AllocGlobal + Wait + Abort>(
     raw: bool,
     calls: &str,
     wires: &str,
-) {
+)
+    requires { Fits options }
+{
     match Survey::new(rt.alloc(), options, raw) {
         Ok(machine) => plays(rt, machine, 16, calls, wires),
         Err(_) => fails(rt),
