@@ -133,6 +133,46 @@ fn a_message_is_one_put(rt: HostRuntime) {
     );
 }
 
+// Where the output fails, the run takes no more rounds and begins nothing: the next message, 50 rounds later, is not
+// waited for; a req sends no second request, and a rep no reply.
+#[test]
+fn nothing_follows_an_output_that_failed(rt: HostRuntime) {
+    runs(
+        &rt,
+        "words --pull --listen tcp://127.0.0.1:5555 --raw
+        link greets_push 0000000000000001'a wait:50 0000000000000001'b
+        pace 100 1
+        sink_fails 0
+        comes out_fault
+        above 90
+        prints '
+        link greets_push 0000000000000001'a wait:50 0000000000000001'b
+        pace 100 1
+        sink_fails 1
+        comes out_fault
+        above 40
+        below 60
+        prints 'a
+        link greets_push 0000000000000001'a wait:50 0000000000000001'b
+        pace 100 1
+        comes over
+        left 0
+        prints 'ab
+        words --req --listen tcp://127.0.0.1:5555 --data ping --raw --count 2
+        link greets_rep after:24 000000000000000580000000'a after:40 000000000000000580000001'b
+        sink_fails 0
+        comes out_fault
+        writes greets_req 000000000000000880000000'ping
+        prints '
+        words --rep --listen tcp://127.0.0.1:5555 --data pong --raw
+        link greets_req 000000000000000880000000'ping
+        sink_fails 0
+        comes out_fault
+        writes greets_rep
+        prints '",
+    );
+}
+
 #[test]
 fn a_pace_of_nothing_is_over(rt: HostRuntime) {
     runs(
