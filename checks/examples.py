@@ -173,7 +173,7 @@ def rep_outlives_a_req_that_is_killed():
 
 @check("ex_rep")
 def a_slow_req_has_every_reply():
-    """A requester that reads nothing before its ten requests are sent, and then slowly, gets 10 MB whole."""
+    """A requester that reads slowly once its ten requests are sent, and sends a byte meanwhile, gets 10 MB whole."""
     port = free_port()
     rep = ours("ex_rep", f"tcp://127.0.0.1:{port}")
     listening(port)
@@ -185,6 +185,8 @@ def a_slow_req_has_every_reply():
         peer.sendall(greeting(REQ) + b"".join(frames))
         came = b""
         while piece := peer.recv(100_000):
+            if len(came) < 9_000_000 <= len(came) + len(piece):
+                peer.sendall(b"\0")
             came += piece
             time.sleep(0.005)
     out, err, status = ended(rep)

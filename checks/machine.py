@@ -108,7 +108,7 @@ def a_flood_does_not_hold_a_deadline():
 
 
 def slow_reader(words, role, byte):
-    """How many of 12 messages of 200 kB arrive at a peer that reads slowly, and sends a message after 0.3 s."""
+    """How many of 12 messages of 200 kB arrive at a peer that reads slowly, and whether it sent a message after 0.3 s."""
     port = free_port()
     data = "x" * 199_990
     path = f"/tmp/slow-reader-{os.getpid()}"
@@ -127,7 +127,7 @@ def slow_reader(words, role, byte):
             if byte and not sent and time.time() - begun > 0.3:
                 peer.sendall(frame(b"a"))
                 sent = True
-            time.sleep(0.002)
+            time.sleep(0.01)
             piece = peer.recv(20_000)
             if not piece:
                 break
@@ -137,14 +137,14 @@ def slow_reader(words, role, byte):
     peer.close()
     out, err = run.communicate(timeout=30)
     os.unlink(path)
-    return came // (8 + len(data)), run.returncode, err
+    return came // (8 + len(data)), run.returncode, err, sent
 
 
 def all_arrives_at_the_end():
     """What a run sent before its end arrives, though the peer is slow and sends something meanwhile."""
     rows = ((("--push",), PULL), (("--pair",), PAIR), (("--bus",), BUS))
-    tried = [slow_reader(words, role, byte) for words, role in rows for byte in (False, True)]
-    return all(row == (12, 0, b"") for row in tried), f"{tried}"
+    tried = [(slow_reader(words, role, byte), byte) for words, role in rows for byte in (False, True)]
+    return all(row == (12, 0, b"", byte) for row, byte in tried), f"{[row for row, _ in tried]}"
 
 
 def a_peer_that_never_shuts_holds_nobody_longer():
@@ -253,7 +253,7 @@ def a_close_frame_is_answered():
 
 
 def silent_links_hold_one_port():
-    """300 silent links at one port hold neither another port nor a name of the run."""
+    """300 silent links at one port hold no other port of the run."""
     quiet, port = free_port(), free_port()
     run = start("--pull", "--listen", address(quiet), "--listen", address(port), "--ascii", "--count", "1")
     peers = [connect(quiet) for _ in range(300)]
@@ -266,6 +266,36 @@ def silent_links_hold_one_port():
     for peer in [*peers, good]:
         peer.close()
     return out == b"hello\n" and took < 3, f"{took:.2f} s"
+
+
+def message_of(port):
+    """The first message that a pair sends to a peer which waits for it; none where it ends the link."""
+    with connect(port) as peer:
+        peer.settimeout(2)
+        try:
+            peer.sendall(greeting(PAIR))
+            return read_all(peer, 8 + 8 + 1)[8:]
+        except OSError:
+            return b""
+
+
+def a_pair_takes_its_next_peer():
+    """A pair that only sends keeps a message of its peer, and takes another peer once it has sent to one that is gone."""
+    port = free_port()
+    run = start("--pair", "--listen", address(port), "--data", "x", "--interval", "1", "--count", "9")
+    first = connect(port)
+    first.sendall(greeting(PAIR) + frame(b"a"))
+    began = read_all(first, 8 + 8 + 1)[8:]
+    first.close()
+    closed = time.time()
+    refused = message_of(port)
+    came = b""
+    while not came and time.time() - closed < 8:
+        came = message_of(port)
+    took = time.time() - closed
+    stop(run)
+    well = (began, refused, came) == (frame(b"x"), b"", frame(b"x"))
+    return well, f"refused at once, taken {took:.1f} s after the first had closed" if well else f"{began} {refused} {came}"
 
 
 def input_that_does_not_wait():
@@ -310,7 +340,7 @@ def a_send_timeout_ends_the_run():
 
 CHECKS = (a_flood_holds_nobody_up, a_flood_does_not_hold_a_deadline, all_arrives_at_the_end,
           a_peer_that_never_shuts_holds_nobody_longer, long_messages_leave_no_memory, much_over_websocket,
-          a_close_frame_is_answered, silent_links_hold_one_port, input_that_does_not_wait, a_send_timeout_ends_the_run)
+          a_close_frame_is_answered, a_pair_takes_its_next_peer, silent_links_hold_one_port, input_that_does_not_wait, a_send_timeout_ends_the_run)
 
 
 def main():

@@ -183,8 +183,9 @@ def opened(port):
     return peer
 
 
-def slowly_read(address, port, meet):
-    """The status of a push whose send times out while a peer reads late and slowly, and how many bytes the peer got."""
+def slowly_read(address, port, meet, late):
+    """The status of a push whose send times out while a peer reads late and slowly, and how many bytes the peer got. The
+    peer sends the late bytes when it has read a megabyte: a link that is simply closed would lose the rest then."""
     with tempfile.NamedTemporaryFile() as f:
         f.write(b"x" * 300_000)
         f.flush()
@@ -194,6 +195,8 @@ def slowly_read(address, port, meet):
             time.sleep(1.5)
             came = 0
             while piece := peer.recv(100_000):
+                if came < 1_000_000 <= came + len(piece):
+                    peer.sendall(late)
                 came += len(piece)
                 time.sleep(0.03)
         push.communicate(timeout=30)
@@ -204,7 +207,7 @@ def slow_peer_gets_all():
     """A peer that reads late and slowly gets whole messages, though the send timeout passes meanwhile."""
     s, port = listener()
     s.close()
-    status, came = slowly_read(f"tcp://127.0.0.1:{port}", port, puller)
+    status, came = slowly_read(f"tcp://127.0.0.1:{port}", port, puller, b"\0\0\0\0\0\0\0\1a")
     return status == 2 and came > 16 * 300_000 and (came - 8) % 300_008 == 0
 
 
@@ -212,7 +215,7 @@ def slow_peer_over_websocket_gets_all():
     """So does one over WebSocket."""
     s, port = listener()
     s.close()
-    status, came = slowly_read(f"ws://127.0.0.1:{port}/x", port, opened)
+    status, came = slowly_read(f"ws://127.0.0.1:{port}/x", port, opened, b"\x82\x81\0\0\0\0a")
     return status == 2 and came > 16 * 300_000 and came % 300_010 in (0, 2, 4)
 
 
