@@ -3,7 +3,7 @@
 printing of large bodies; and a drill of ours.
 
 The other end is a raw peer written here, which floods or drains, so that it isn't the limit; or, in `both_ends`, the same
-program. Prints a table. Words name the parts that are wanted, without one all.
+program. Prints a line for each figure. Words name the parts that are wanted; without words it measures all.
 """
 import os
 import resource
@@ -154,7 +154,7 @@ def trip_rate(server, count):
 
 
 def idle(program, peers=1):
-    """Share of a processor in percent, and memory in KiB, of a pull with so many peers that say nothing."""
+    """Share of a processor in percent, and memory in KiB, of a pull with `peers` peers that send nothing."""
     port = free_port()
     run = subprocess.Popen([program, "--pull", "--listen", address(port), "--raw", "--count", "1"],
                            stdout=subprocess.DEVNULL)
@@ -180,7 +180,7 @@ def idle(program, peers=1):
 
 
 def read_at_once(run):
-    """How many bytes a run writes into its pipe, in how many seconds from the first on, and its processor seconds."""
+    """The number of bytes that a run writes into its pipe, the seconds from the first byte on, and its processor seconds."""
     size, begun = 0, None
     while piece := os.read(run.stdout.fileno(), 1 << 20):
         begun = begun or time.time()
@@ -193,7 +193,7 @@ def read_at_once(run):
 
 
 def large_bodies(program, form, count):
-    """The same of a pull that prints so many bodies of 1 MiB, which hold all bytes."""
+    """`read_at_once` of a pull that prints `count` bodies of 1 MiB, which hold all bytes."""
     port = free_port()
     run = subprocess.Popen([program, "--pull", "--listen", address(port), form, "--count", str(count)],
                            stdout=subprocess.PIPE)
@@ -214,9 +214,9 @@ def large_bodies(program, form, count):
 
 
 def drill_rate(program, count):
-    """Seconds that a drill of so many messages takes, its processor seconds, and the receives that it begins and races.
+    """Seconds that a drill of `count` messages takes, its processor seconds, and the receives that it begins and races.
 
-    Each round of 64 messages begins 96 receives; those that main begins alone, afterwards, aren't counted."""
+    Each round of 64 messages begins 96 receives; those that the main caller begins afterwards aren't counted."""
     before = resource.getrusage(resource.RUSAGE_CHILDREN)
     begun = time.time()
     subprocess.run([program, "--drill", str(count)], stdout=subprocess.DEVNULL, check=True, timeout=300)

@@ -147,7 +147,7 @@ def comes_back_to_our_rep(listens):
 
 
 def shows(run, wanted, seconds=20):
-    """Whether a run that goes on prints these bytes, whatever stands before them, in so many seconds."""
+    """Returns whether a run that goes on prints `wanted`, after any other bytes, within `seconds`."""
     came, until = b"", time.time() + seconds
     while wanted not in came:
         ready, _, _ = select.select([run.stdout], [], [], max(0, until - time.time()))
@@ -246,8 +246,8 @@ def a_dial_under_way_is_kept():
 
 
 def names_meet():
-    """Names within the process: a bus that listens on a name and dials it, alone, with two names and beside TCP; and
-    dials of a name where nobody listens, whose timeouts end them."""
+    """Names within the process: a bus that listens on a name and dials it, without other ends, with two names and beside
+    TCP; and dials of a name where nobody listens, which time out."""
     bus = ("--bus", "--listen", "inproc://x", "--data", "m")
     rows = [((*bus, "--dial", "inproc://x", "--count", count), 0) for count in ("1", "3", "100")]
     rows += [((*bus, "--dial", "inproc://x"), 0),

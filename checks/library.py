@@ -268,7 +268,7 @@ def answers_twice(respondent):
 
 
 def answers_after(respondent, seconds, body, survey_of):
-    """One survey is answered so many seconds later; tells what it was."""
+    """Answers one survey after `seconds`, and keeps in `survey_of` what it was."""
     try:
         survey_of[body] = respondent.receive()
         time.sleep(seconds)
@@ -319,8 +319,8 @@ def numbered():
 
 
 def many_of_the_library():
-    """So many messages of a push of the library, numbered, are printed by our pull in order; and those of our push, which
-    are all the same, come to a pull of the library."""
+    """PUSHED numbered messages of a push of the library are printed by our pull in order; PUSHED messages of our push,
+    which are all the same, arrive at a pull of the library."""
     told = []
     for listens in (True, False):
         port = free_port()

@@ -38,7 +38,7 @@ def device(name):
 
 
 class Network:
-    """Two hosts with so many seconds between them."""
+    """Two hosts; a packet takes `delay` seconds from one to the other."""
 
     def __init__(self, delay):
         self.delay = delay
@@ -170,7 +170,7 @@ CHECKS = (dials_at_a_distance, refused_dials_come_again, all_arrives_at_a_distan
 
 
 def can():
-    """Whether this machine lets a network be made."""
+    """Returns whether this machine lets a network be made."""
     if not shutil.which("ip") or os.geteuid() != 0:
         return False
     try:

@@ -51,7 +51,7 @@ def connect(port, tries=200):
 
 
 def read_all(peer, size):
-    """So many bytes of the peer, or fewer where it ends before."""
+    """The next `size` bytes of the peer, or fewer where it ends before."""
     came = b""
     while len(came) < size:
         piece = peer.recv(size - len(came))
@@ -81,7 +81,7 @@ def stop(*runs):
 
 
 def reads(run, wanted, seconds=20):
-    """Whether a run that goes on prints these bytes next, in so many seconds."""
+    """Returns whether a run that goes on prints `wanted` next, within `seconds`."""
     came, until = b"", time.time() + seconds
     while len(came) < len(wanted):
         ready, _, _ = select.select([run.stdout], [], [], max(0, until - time.time()))
@@ -122,8 +122,8 @@ def memory(run):
 
 
 def many_links():
-    """Links that come and go leave no trace: a message is printed after so many, with status 0, and the memory in use
-    grew by at most 1 MiB."""
+    """LINKS links that come and go leave no trace: then a message is printed, with status 0, and the memory in use grew by
+    at most 1 MiB."""
     port = free_port()
     run = start("--pull", "--listen", address(port), "--ascii", "--count", "1")
     held = connect(port)
@@ -144,7 +144,7 @@ def many_links():
 
 
 def many_messages():
-    """So many messages, whole and in order."""
+    """A pull prints MESSAGES messages whole and in order."""
     port = free_port()
     run = start("--pull", "--listen", address(port), "--raw", "--count", str(MESSAGES))
     peer = connect(port)
@@ -164,7 +164,7 @@ def many_messages():
 
 
 def many_pushed():
-    """So many messages of a push, whole: a peer that reads all."""
+    """A push sends PUSHED messages whole to a peer that reads all."""
     port = free_port()
     body = b"0123456789abcdef"
     run = start("--push", "--listen", address(port), "--data", body.decode(), "--count", str(PUSHED))
@@ -182,7 +182,7 @@ def many_pushed():
 
 
 def many_between(pusher, puller, puller_listens):
-    """Whether so many messages that one pushes are printed by the other, by their bytes: all have the same body."""
+    """Returns whether PUSHED messages that one pushes are printed by the other, by the number of bytes: all have one body."""
     port = free_port()
     body = b"0123456789abcdef"
     push = ("--push", "--data", body.decode(), "--count", str(PUSHED), "--interval", "0")
@@ -196,7 +196,7 @@ def many_between(pusher, puller, puller_listens):
 
 
 def many_with_theirs():
-    """So many messages from our push to Debian's pull, and from Debian's push to ours, each side listening in turn."""
+    """PUSHED messages from our push to Debian's pull, and from Debian's push to ours, each side listening in turn."""
     tried = [many_between(*pair, listens) for pair in ((OURS, THEIRS), (THEIRS, OURS)) for listens in (False, True)]
     return all(well for well, _ in tried), f"{PUSHED} messages of 16 bytes, {[size for _, size in tried]} bytes"
 
@@ -407,8 +407,8 @@ def full_output():
 
 
 def ends_after(seconds, pause, take):
-    """A push of 1,000,000 bytes again and again, whose send times out after a second, at a peer that reads so many bytes each
-    so many seconds, for so long: whether it ended before the peer stopped, its status, and how long after it ended."""
+    """A push sends 1,000,000 bytes again and again, and its send times out after a second. Its peer reads `take` bytes each
+    `pause` seconds, for `seconds`. Returns whether it ended before the peer stopped, its status, and how long after."""
     port = free_port()
     with tempfile.NamedTemporaryFile() as data:
         data.write(b"x" * 1_000_000)
@@ -525,7 +525,7 @@ def answers_theirs():
 
 
 def brings_a_pair(server, dialer, server_sends):
-    """Whether one message of a pair comes from the side that sends, and what the other one prints."""
+    """Returns whether one message of a pair comes from the side that sends, and what the other one prints."""
     port = free_port()
     sends, takes = ("--pair0", "--data", "hello"), ("--pair0", "--ascii", "--count", "1")
     run = listening(server, port, *(sends if server_sends else takes))
@@ -597,7 +597,7 @@ def requests():
 
 
 def answers(peer, body, seconds, times):
-    """Answers each survey of a surveyor so many seconds later with this body, so many times."""
+    """Answers each survey of a surveyor after `seconds` with `body`, `times` times."""
     with peer, peer.makefile("rb") as came:
         came.read(8)
         while len(size := came.read(8)) == 8:
@@ -832,7 +832,7 @@ def lacks(text, lines):
 
 
 def help_and_version():
-    """--help and --version alone: status 0, on standard output, at most 64 lines of 80 columns, four examples, each option
+    """--help and --version as the only word: status 0, on standard output, at most 64 lines of 80 columns, four examples, each option
     with its unit and default. Both complain where standard output takes nothing."""
     status, text, err = answered("--help")
     lines = text.decode().split("\n")

@@ -1,5 +1,5 @@
 #!/usr/bin/env python3
-"""Runs the built nngcat a few times, alone. Its status is the number of runs that were not as they must be.
+"""Runs the built nngcat a few times, without nng's. Its status is the number of runs with a wrong result.
 
 These runs decide the gate: they are of what no proof and no test reaches, the program's own `main`.
 """
@@ -20,7 +20,7 @@ def run(*words, **more):
 
 
 def is_end(end, status, out, err):
-    """Whether a run ended so; the lines on standard error are these."""
+    """Returns whether a run ended with this status, output and lines on standard error."""
     lines = end.stderr.decode().splitlines()
     return end.returncode == status and end.stdout.decode() == out and lines == err
 

@@ -140,7 +140,7 @@ def asks_a_plain_server():
 
 
 def ends(peer, bytes_):
-    """Whether the other side ends the link after these bytes, while this one keeps its own half open."""
+    """Returns whether the other side ends the link after these bytes, while this one keeps its own half open."""
     peer.settimeout(10)
     try:
         peer.sendall(bytes_)
@@ -157,7 +157,7 @@ LONGEST = 1_048_576
 
 
 def broken_clients():
-    """Each of these ends its own link alone, the last but one since it is cut; the next client is served."""
+    """Each of these ends only its own link, the last but one since it is cut; the next client is served."""
     wrong = [
         frame(b"bare", mask=b""),
         frame(b"reserved", 0xc2),
@@ -301,7 +301,7 @@ def unfinished_heads(port):
 
 
 def answer_and_end(port, bytes_):
-    """What comes after these bytes, and whether the link ends within two seconds."""
+    """What is read after these bytes, and whether the link ends within two seconds."""
     peer = connect(port)
     peer.settimeout(2)
     came = b""
@@ -319,7 +319,7 @@ def answer_and_end(port, bytes_):
 
 
 def left_alone(peer):
-    """Whether nothing came over the link."""
+    """Returns whether nothing came over the link."""
     peer.setblocking(False)
     try:
         return not peer.recv(100)

@@ -16,7 +16,7 @@ _nngcat_words() {
     done
 }
 
-# Takes from each answer what stands before the last break within the word: bash keeps it.
+# Removes from each answer what stands before the last break within the word: bash keeps it.
 _nngcat_trim() {
     local i head=
     [[ $COMP_WORDBREAKS == *=* && $word == --*=* ]] && head=${word%%=*}=
@@ -26,7 +26,7 @@ _nngcat_trim() {
     done
 }
 
-# The answers among so many words, behind what stands before the value.
+# The answers among the words of the first argument, after what stands before the value.
 _nngcat_among() {
     local answer
     while IFS= read -r answer; do
@@ -34,8 +34,8 @@ _nngcat_among() {
     done < <(compgen -W "$1" -- "$value")
 }
 
-# The names of files. The quote or the backslashes that were typed are no part of a name; bash puts a backslash before a
-# blank of an answer, and a / behind a directory.
+# The names of files. A quote or backslashes that were typed are no part of a name; bash puts a backslash before a
+# blank of an answer, and a / after a directory.
 _nngcat_files() {
     local answer
     value=${value#[\"\']}
