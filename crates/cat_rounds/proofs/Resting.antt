@@ -22,7 +22,8 @@ use Rattle.cat_rounds.specs.declared.rounds.Round.TheVariants as rounds
 use Rattle.cat_rounds.specs.Lasting.{IsUnderWay}
 use Rattle.cat_rounds.specs.PlayerSteps.{Stands, GoesOnBy, IsKept}
 use Rattle.cat_rounds.specs.Resting.{BeginsNothing, IsAtRest, MovesStill, RoundMoves}
-use Rattle.cat_rounds.proofs.Rounding.{ServesSo, serving_silent}
+use Rattle.sp_core.specs.CallSays.{ServesPipes}
+use Rattle.cat_rounds.proofs.Rounding.{serving_silent}
 
 -- ---- At rest
 
@@ -42,11 +43,11 @@ pub rests_is : (a b : Bool) → goings.Rests a ≡ goings.Rests b → a ≡ b
 rests_is a b e = cc
 
 -- a turn that serves the pipes leaves what is under way
-under_way_served : (r : Served) (s s' : SingleView) → TookOne (ServesSo r) s s' → under_way (past_of s'.seen) ≡ under_way (past_of s.seen)
+under_way_served : (r : Served) (s s' : SingleView) → TookOne (ServesPipes r) s s' → under_way (past_of s'.seen) ≡ under_way (past_of s.seen)
 under_way_served r s s' took = ap (λ (h : List (Turn Entry)). under_way (past_of h)) took.seen ∙ (ap under_way (past_of-append s.seen took.turn) ∙ under_way_stays took.turn.entries (past_of s.seen) (serving_silent took.turn.entries took.said.2.kinds))
 
 -- after a serve in which nothing moved, and steps that began nothing
-pub at_rest : (r : Served) (s s' s'' : SingleView) → TookOne (ServesSo r) s s' → r.moved ≡ false → GoesOnBy s' s'' → BeginsNothing s' s'' → IsAtRest s''
+pub at_rest : (r : Served) (s s' s'' : SingleView) → TookOne (ServesPipes r) s s' → r.moved ≡ false → GoesOnBy s' s'' → BeginsNothing s' s'' → IsAtRest s''
 at_rest r s s' s'' took still on kept =
     record {
       before = s.seen;
@@ -65,9 +66,9 @@ longer moves h h' (turns, is, none) = let n = ap length is ∙ length-append h t
 took_more : (says : Setting → List (Turn Entry) → Turn Entry → Type 0) (s s' : SingleView) → TookOne says s s' → length s'.seen ≡ length s.seen + 1
 took_more says s s' took = ap length took.seen ∙ length-append s.seen (took.turn ∷ [])
 
-pub swept_more : (r : Served) (s s' s'' : SingleView) → TookOne (ServesSo r) s s' → GoesOnBy s' s'' → length s.seen + 1 ≤ length s''.seen
+pub swept_more : (r : Served) (s s' s'' : SingleView) → TookOne (ServesPipes r) s s' → GoesOnBy s' s'' → length s.seen + 1 ≤ length s''.seen
 swept_more r s s' s'' took on =
-    let one = took_more (ServesSo r) s s' took in
+    let one = took_more (ServesPipes r) s s' took in
     let more = longer moves_ends s'.seen s''.seen on.links in
     omega (arith, one, more)
 

@@ -15,9 +15,9 @@ use Rattle.sp_socket.specs.Singles.{SingleView, TookOne}
 use Rattle.cat_play.specs.Scripts.{has_ticked, under_way, over, texts, joined}
 use Rattle.sp_ends.specs.Entries.{each, is_tick}
 use Rattle.cat_play.specs.Playing.{alternates, may_rest}
-use Rattle.sp_history.specs.Swept.{IsSwept, AreFlushed}
 use Rattle.core_state.specs.declared.served.Served.{Served}
-use Rattle.sp_core.specs.Serving.{IsServing, AreServing, IsServeTurn, ServedBy, stalls_in}
+use Rattle.sp_core.specs.CallSays.{ServesPipes}
+use Rattle.sp_core.specs.Serving.{IsServing, AreServing, stalls_in}
 use Rattle.sp_base.specs.Outside.{grown}
 use Rattle.sp_ends.specs.Entries.{moves_ends, moves_calls}
 use Rattle.cat_rounds.specs.declared.player.PlayEnd.TheVariants as overs
@@ -146,18 +146,13 @@ pub serving_linkless : (es : List Entry) → AreServing es → none_of moves_end
 serving_linkless [] s = refl
 serving_linkless (e ∷ es) s = rw (serving_ends e s.0) (serving_linkless es s.1)
 
--- what a turn that serves states
-abbrev pub ServesSo : Served → Setting → List (Turn Entry) → Turn Entry → Type 0
-ServesSo r z h t =
-    IsSwept z (past_of h) t × AreFlushed (past_of h) t × IsServeTurn t × ServedBy r t × (r.up ≡ length (up (past_of (h ++ t ∷ []))))
-
 -- what it leaves
 pub record ServedOnce (s s' : SingleView) (p : Player) (out : SinkView) (t : ℕ) : Type 0 where
   pub stands : Stands s' p t
   pub along : Along s s' p p out out
   pub served : HasServed s'.setting s'.seen
 
-pub serve_along : (r : Served) (s s' : SingleView) (p : Player) (out : SinkView) (t : ℕ) → TookOne (ServesSo r) s s' → Stands s p t → ServedOnce s s' p out t
+pub serve_along : (r : Served) (s s' : SingleView) (p : Player) (out : SinkView) (t : ℕ) → TookOne (ServesPipes r) s s' → Stands s p t → ServedOnce s s' p out t
 serve_along r s s' p out t took stands =
     let kinds = took.said.2.kinds in
     let silent = serving_silent took.turn.entries kinds in
@@ -179,7 +174,7 @@ nil_is : (xs : List ℕ) (n : ℕ) → n ≡ length xs → is_nil xs ≡ not (na
 nil_is [] n e = grind (arith, nat_tests)
 nil_is (x ∷ xs) n e = grind (arith, nat_tests)
 
-pub serve_knows : (r : Served) (s s' : SingleView) (p : Player) → TookOne (ServesSo r) s s' → KnowsPipes (nat_lt 0 r.up) s' p
+pub serve_knows : (r : Served) (s s' : SingleView) (p : Player) → TookOne (ServesPipes r) s s' → KnowsPipes (nat_lt 0 r.up) s' p
 serve_knows r s s' p took flood body free none =
     at_new s s' took (λ z h. is_nil (up (past_of h)) ≡ not (nat_lt 0 r.up)) (nil_is (up (past_of (s.seen ++ took.turn ∷ []))) r.up took.said.4)
 
@@ -218,7 +213,7 @@ no_begins [] s = refl
 no_begins (e ∷ es) s = rw (serving_begin e s.0) (no_begins es s.1)
 
 -- after a serve that left nothing to be written, where the play is over, all is written
-pub through : (r : Served) (s s' : SingleView) (p : Player) (t : ℕ) → TookOne (ServesSo r) s s' → Stands s p t → p.op ≡ None → (p.over ≡ overs.Open → ⊥) → has_more r ≡ false → AreCleared (past_of s'.seen)
+pub through : (r : Served) (s s' : SingleView) (p : Player) (t : ℕ) → TookOne (ServesPipes r) s s' → Stands s p t → p.op ≡ None → (p.over ≡ overs.Open → ⊥) → has_more r ≡ false → AreCleared (past_of s'.seen)
 through r s s' p t took stands free n none =
     subst (λ (h : List (Turn Entry)). AreCleared (past_of h)) (sym took.seen) (all_cleared s.seen took.turn took.said.1 (no_stalls took.turn.entries (sym took.said.3.1 ∙ no_wait)) no_outs)
   where
@@ -250,5 +245,5 @@ through r s s' p t took stands free n none =
     no_outs =
         nothing_sent z (past_of s.seen) took.turn (LegalFrom-prefix z [] s.seen took.turn all).1 pends (silent (is_req z.role) refl) (no_begins took.turn.entries took.said.2.kinds)
 
-pub serve_texts : (r : Served) (s s' : SingleView) (p : Player) (t : ℕ) → TookOne (ServesSo r) s s' → Stands s p t → texts (play_of p.script) (past_of s'.seen) ≡ texts (play_of p.script) (past_of s.seen)
+pub serve_texts : (r : Served) (s s' : SingleView) (p : Player) (t : ℕ) → TookOne (ServesPipes r) s s' → Stands s p t → texts (play_of p.script) (past_of s'.seen) ≡ texts (play_of p.script) (past_of s.seen)
 serve_texts r s s' p t took stands = silent_texts s s' took (play_of p.script) (serving_silent took.turn.entries took.said.2.kinds) stands.play.is_open
