@@ -198,7 +198,8 @@ def sends_much(listens, peer_of):
     run = start("--push", "--listen", listens(port), "--file", path, "--count", "32", "--interval", "0")
     connect(port).close()
     peer = peer_of(port)
-    peer.setsockopt(socket.SOL_SOCKET, socket.SO_RCVBUF, 8192)
+    # Of smaller windows some systems pass a few kilobytes every 40 ms, whoever sends.
+    peer.setsockopt(socket.SOL_SOCKET, socket.SO_RCVBUF, 65536)
     peer.settimeout(20)
     came, used = 0, 0
     while came < 32_000_000:
