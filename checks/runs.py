@@ -43,7 +43,7 @@ def missing_file():
     end = run("--push", "--dial", "tcp://127.0.0.1:1", "--file", "/nowhere/at/all")
     lines = end.stderr.decode().splitlines()
     return (end.returncode == 6 and lines[:2] == ["nngcat: file fault", "nngcat: --file \"/nowhere/at/all\""]
-            and len(lines) == 3 and lines[2].startswith("nngcat: "))
+            and lines[2:] == ["nngcat: no such file"])
 
 
 def port_in_use():

@@ -118,7 +118,8 @@ impl<'r, R: Wait, P: Proto, L: Link, N: Net<L = L>, C: Pace> Node<'r, R, P, L, N
         }
     }
 
-    /// Flushes the node for at most two seconds, closes it, where it isn't closed, and gives every link back.
+    /// Flushes the node for at most two seconds, closes it, where it isn't closed, and gives every link back. The net may
+    /// still hold what peers haven't taken: `TcpNet::finish`, with `net` and `pace` of the result, waits for them.
     pub fn finish(self) -> NodeEnd<N, C>
         ensures left { Leaves self.entry.single (N.seen result.net) result.record_.turns }
         ensures flushed { EndsFlushed result.totals self.entry.single result.record_.turns }

@@ -81,7 +81,8 @@ impl MemorySocket {
         }
     }
 
-    /// The capacity of its buffers, in bytes, except those of the `tungstenite` socket.
+    /// The capacity of its buffers, in bytes. For those of the `tungstenite` socket it counts the most that one frame
+    /// or one feed brought since that socket was made.
     pub(crate) fn capacity(&self) -> usize {
         self.stream.capacity()
     }

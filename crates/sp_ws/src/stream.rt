@@ -292,12 +292,14 @@ impl Stream {
         self.renew();
     }
 
-    /// The capacity of its own buffers, in bytes. The socket doesn't show that of its buffers.
+    /// The capacity of its own buffers, in bytes, and for those of the socket, which doesn't show theirs, the largest
+    /// number of bytes that a frame had, or that were fed at once, since the socket was made.
     pub(crate) fn capacity(&self) -> usize {
         let memory = self.socket.get_ref();
         let came = self.fed.capacity().saturating_add(memory.fed.capacity());
         let goes = self.out.capacity().saturating_add(memory.out.capacity());
-        came.saturating_add(goes)
+        let own = came.saturating_add(goes);
+        own.saturating_add(self.cuts.most() as usize)
     }
 
     /// One read of the socket, which is logged. No other function reads it.

@@ -111,7 +111,8 @@ impl<L: Link> WsWire<L> {
         self.marks.is_open
     }
 
-    /// The capacity of its buffers, in bytes, except those of the `tungstenite` socket, which are freed with it.
+    /// The capacity of its buffers, in bytes. For those of the `tungstenite` socket it counts the most that one frame
+    /// or one feed brought since that socket was made.
     pub fn capacity(&self) -> usize {
         let came = self.room.capacity().saturating_add(self.frames.capacity());
         came.saturating_add(self.outlet.capacity())

@@ -115,6 +115,29 @@ fn give_the_same<R: Abort>(rt: &R, alloc: Global, seed: u64) {
     holds(rt, from_wheel.as_slice() == from_list.as_slice());
 }
 
+// Names come by deadline: of two that are due one after another, the one that was put first comes last.
+#[test]
+fn calls_give_names_when_they_are_due(rt: HostRuntime) {
+    let first = OpName {
+        slot: 0,
+        generation: 1,
+    };
+    let second = OpName {
+        slot: 1,
+        generation: 1,
+    };
+    let calls = [
+        DueCall::Put(first, Tick(5)),
+        DueCall::Put(second, Tick(4)),
+        DueCall::Due(Tick(4)),
+        DueCall::Due(Tick(5)),
+    ];
+    let mut in_wheel = made(&rt, Deadlines::new(rt.alloc(), 64));
+    let mut names = made(&rt, NameList::with_room(rt.alloc(), 256));
+    run_due(&mut in_wheel, &calls, &mut names);
+    holds(&rt, names.as_slice() == [second, first]);
+}
+
 #[test]
 fn drawn_calls_give_the_same_names(rt: HostRuntime) {
     for seed in 0..50 {

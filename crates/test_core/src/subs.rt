@@ -44,6 +44,30 @@ fn a_subscriber_keeps_what_its_topics_match(rt: HostRuntime) {
     small_sub_plays(&rt, false, true, calls, NOTHING);
 }
 
+// Topics of this many lengths are kept as a set.
+#[test]
+fn the_empty_topic_is_one_of_many(rt: HostRuntime) {
+    let calls = "
+        joins 0 0 1 'b 'ab 'q
+        subscribes 0 ' 0
+        subscribes 0 'a 0
+        subscribes 0 'cc 0
+        subscribes 0 'ddd 0
+        subscribes 0 'eeee 0
+        subscribes 0 'fffff 0
+        subscribes 0 'gggggg 0
+        subscribes 0 'hhhhhhh 0
+        subscribes 0 'iiiiiiii 0
+        subscribes 0 'jjjjjjjjj 0
+        unsubscribes 0 ' 0
+        serve
+        now 0 ' 'ab
+        not_now 0 8
+        close 1 1 0 3 0 0
+    ";
+    small_sub_plays(&rt, false, true, calls, NOTHING);
+}
+
 #[test]
 fn a_subscriber_that_prefers_the_older_discards_the_new_one(rt: HostRuntime) {
     let calls = "

@@ -5,7 +5,9 @@ use crate::files::{files_fail, files_give};
 use crate::links::real_plays;
 use crate::nets::plays;
 use crate::outputs::puts;
+use cat_run::real::Reason;
 use sp_base::Sunk;
+use std::io::{Error, ErrorKind};
 
 // More bytes than the sockets of a link hold in transit.
 #[test]
@@ -92,9 +94,22 @@ fn a_peer_that_does_not_end_is_waited_for_two_seconds(rt: HostRuntime) {
 }
 
 #[test]
+fn a_peer_that_resets_a_link_that_is_back_is_counted(rt: HostRuntime) {
+    real_plays(&rt, "leaves reset 28845");
+}
+
+#[test]
 fn a_listen_that_fails_says_why(rt: HostRuntime) {
     real_plays(&rt, "says in_use 28635");
     real_plays(&rt, "says elsewhere 28675");
+}
+
+// Root may listen everywhere, so no test meets this one at a port.
+#[test]
+fn a_port_that_is_not_permitted_says_so(rt: HostRuntime) {
+    let reason = Reason::of(Error::from(ErrorKind::PermissionDenied));
+    let said = made(&rt, format!(in rt.alloc(); "{reason}"));
+    assert!(rt; said.as_str() == "permission denied", "{said}");
 }
 
 #[test]

@@ -1,6 +1,6 @@
 //! A pace whose time is set, and a connection that is given up by it.
 use crate::checks::{holds, made};
-use crate::links::{DialEnd, dial, fills};
+use crate::links::{DialEnd, dial, fills, take_all};
 use crate::nets::address;
 use cat_run::real::{RealPace, TcpNet};
 use sp_base::{Net, Pace};
@@ -59,6 +59,61 @@ fn is_given_up<R: std::net::Net + AllocGlobal + Abort + Clone + Drop>(
     drop(listener);
     let over = early == DialEnd::Begun && late == DialEnd::NotYet && again == DialEnd::Begun;
     Some(begun && over)
+}
+
+// The result of the dial after a connection under way was reported: its listener accepts what waits, or goes. The pace
+// stands still, so the connection is never given up. `None` where the port is taken.
+fn dial_when_reported<R: std::net::Net + AllocGlobal + Abort + Clone + Drop>(
+    rt: &R,
+    goes: bool,
+    port: u16,
+) -> Option<DialEnd> {
+    let to = SocketAddr::new(IpAddr::V4(Ipv4Addr::new(127, 0, 0, 1)), port);
+    let listener = TcpListener::bind(rt, to).ok()?;
+    listener.set_nonblocking(true).ok()?;
+    let clock = Cell::new(10);
+    let mut pace = made(rt, RealPace::new(SetClock { now: &clock }, rt, rt.alloc()));
+    let registry = made(rt, pace.registry());
+    let mut net = TcpNet::new(made(rt, rt.clone()), registry, rt.alloc());
+    let addr = address(1, port);
+    if !fills(&mut net, &addr) {
+        return Some(DialEnd::Fails);
+    }
+    let _ = pace.rest(0);
+    if goes {
+        drop(listener);
+        let _ = pace.rest(8_000);
+        return Some(dial(&mut net, &addr));
+    }
+    take_all(&listener);
+    let _ = pace.rest(8_000);
+    Some(dial(&mut net, &addr))
+}
+
+// Aborts where that dial isn't this.
+fn dials_when_reported<R: std::net::Net + AllocGlobal + Abort + Clone + Drop>(
+    rt: &R,
+    goes: bool,
+    wanted: DialEnd,
+    first: u16,
+) {
+    for step in 0..30 {
+        if let Some(end) = dial_when_reported(rt, goes, first.saturating_add(step)) {
+            assert!(rt; end == wanted, "{end:?}");
+            return;
+        }
+    }
+    assert!(rt; false, "no port is free");
+}
+
+#[test]
+fn a_connection_that_is_made_is_found_when_it_is_reported(rt: HostRuntime) {
+    dials_when_reported(&rt, false, DialEnd::Links, 28_885);
+}
+
+#[test]
+fn a_connection_whose_listener_goes_is_dialed_again(rt: HostRuntime) {
+    dials_when_reported(&rt, true, DialEnd::NotYet, 28_925);
 }
 
 #[test]

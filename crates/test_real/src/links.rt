@@ -13,6 +13,7 @@
 //! | `leaves slow 28555` | a peer that takes its time, and sends a byte, gets all that was written |
 //! | `leaves sending 28795` | so does one that sends much more than a turn reads of it |
 //! | `leaves silent 28595` | two that don't end their streams are waited for, two seconds in all, and counted |
+//! | `leaves reset 28845` | one that is dropped with bytes that it hasn't read is counted |
 //! | `says in_use 28635` | why a listen failed: the port has a listener |
 //! | `says elsewhere 28675` | why a listen failed: the address is another machine's |
 //!
@@ -467,8 +468,8 @@ pub fn fills<N: Net>(net: &mut N, addr: &Addr) -> bool
     false
 }
 
-// Accepts all connections that wait.
-fn take_all<A: OpenListener>(listener: &A) {
+/// Accepts all connections that wait.
+pub fn take_all<A: OpenListener>(listener: &A) {
     for turn in 0..1_000 {
         if listener.accept().is_err() {
             return;
@@ -545,6 +546,24 @@ fn leaves_whole<
         || net.finishes(pace),
     );
     Some(sent > 500_000 && came == sent && lost == 0)
+}
+
+// Returns whether a peer that goes with bytes that it hasn't read, after the link was given back, counts as one that
+// hasn't received everything.
+fn counts_a_reset<S: std::net::Net, N: Finishes<P>, P: Rests>(
+    system: &S,
+    net: &mut N,
+    pace: &mut P,
+    bytes: &[u8],
+    first: u16,
+) -> Option<bool> {
+    let (at, port) = listening(net, false, first)?;
+    let peer = TcpStream::connect(system, here(port)).ok()?;
+    let mut link = accepted(net, at, pace)?;
+    let sent = fill_link(&mut link, bytes);
+    done(net, link);
+    drop(peer);
+    Some(sent > 500_000 && net.finishes(pace) == 1)
 }
 
 // Returns whether two peers that don't end their streams are waited for, for two seconds in all.
@@ -638,6 +657,10 @@ fn is_so<
             leaves_whole(system, net, pace, &bytes, &bytes, port)
         }
         ("leaves", "silent") => waits_for_end(system, net, pace, port),
+        ("leaves", "reset") => {
+            let bytes = patterned(alloc, 2_400_000).ok()?;
+            counts_a_reset(system, net, pace, &bytes, port)
+        }
         ("says", _) => says(net, alloc, word, port),
         _ => None,
     }
