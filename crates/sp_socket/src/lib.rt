@@ -34,6 +34,7 @@ mod single_calls;
 mod socket;
 mod turn_calls;
 mod wait;
+mod waiters;
 
 pub use aio_word::{Polled, Raced};
 pub use begin::open;
