@@ -14,7 +14,7 @@ use Rattle.sp_history.specs.declared.entry.Entry.{Entry}
 use Rattle.sp_history.specs.declared.setting.Setting.{Setting}
 use Rattle.sp_history.specs.Moments.{Moment}
 use Rattle.sp_proto.specs.Kinds.{Kind, kind_of, setting_of, start}
-use Rattle.sp_socket.specs.Singles.{SingleView}
+use Rattle.sp_socket.specs.Singles.{SingleView, cancelled_of}
 use Rattle.sp_ends.specs.EndViews.{LinkEndsView, Beginning}
 use Rattle.sp_ends.specs.RunLinks.{EndsStand}
 use Rattle.cat_text.specs.Drafts.{needs_data}
@@ -104,18 +104,18 @@ play_begins z s p n role surveys carries =
       idle = λ e. refl;
     }
 
-begins : {L : Type 0} (seen : L → LinkView) (start : Beginning) (s : SingleView) (e : LinkEndsView L) (script : Script) (p : Player) → s.seen ≡ [] → e ≡ no_ends s.setting.role start.origins.dice → IsNewPlayer script p → s.setting.role ≡ script.role → HasSurveys s.setting
+begins : {L : Type 0} (seen : L → LinkView) (start : Beginning) (s : SingleView) (e : LinkEndsView L) (script : Script) (p : Player) → s.seen ≡ [] → cancelled_of s ≡ [] → e ≡ no_ends s.setting.role start.origins.dice → IsNewPlayer script p → s.setting.role ≡ script.role → HasSurveys s.setting
     → IsTrue (not (needs_data script.role) || is_some script.body) → RunStands seen start s e p start.net false
-begins seen start s e script p empty none new role surveys carries =
-    subst (λ (v : SingleView). RunStands seen start v e p start.net false) (sym single) (subst (λ (x : LinkEndsView _). RunStands seen start (record { setting = s.setting; seen = [] }) x p start.net false) (sym none) (record {
-      sound = record { legal = tt; settled = tt };
+begins seen start s e script p empty uncancelled none new role surveys carries =
+    subst (λ (v : SingleView). RunStands seen start v e p start.net false) (sym single) (subst (λ (x : LinkEndsView _). RunStands seen start (record s { seen = [] }) x p start.net false) (sym none) (record {
+      sound = record { legal = tt; settled = tt; uncancelled = uncancelled };
       play = play_begins s.setting script p new role surveys carries;
       ends_stand = ends_begin seen s.setting start;
       dry = refl;
     }))
   where
-    single : s ≡ record { setting = s.setting; seen = [] }
-    single = ap (λ (h : List (Turn Entry)). let v : SingleView = record { setting = s.setting; seen = h } in v) empty
+    single : s ≡ record s { seen = [] }
+    single = ap (λ (h : List (Turn Entry)). let v : SingleView = record s { seen = h } in v) empty
 
 -- ---- The plan
 
@@ -156,10 +156,10 @@ prints_nothing text h p empty = subst (λ (g : List (Turn Entry)). HasPrinted te
     nothing (Some s) = ap (λ (s : List ℕ). Some s) (sym (append_nil s))
 
 -- what holds before the first round of the run of a plan
-pub plan_begins : {L : Type 0} (seen : L → LinkView) (net : NetView) (s : SingleView) (e : LinkEndsView L) (plan : CatPlan) (body : Option (List ℕ)) (p : Player) (dice : ℕ) → s.seen ≡ [] → s.setting ≡ run_setting plan.role dice → e ≡ no_ends plan.role dice → IsNewPlayer (script_of plan body) p → IsBuilt plan
+pub plan_begins : {L : Type 0} (seen : L → LinkView) (net : NetView) (s : SingleView) (e : LinkEndsView L) (plan : CatPlan) (body : Option (List ℕ)) (p : Player) (dice : ℕ) → s.seen ≡ [] → cancelled_of s ≡ [] → s.setting ≡ run_setting plan.role dice → e ≡ no_ends plan.role dice → IsNewPlayer (script_of plan body) p → IsBuilt plan
     → IsBody plan.data_ body → RunStands seen (start_of net plan dice) s e p net false
-plan_begins seen net s e plan body p dice empty setting none new built is =
-    begins seen (start_of net plan dice) s e (script_of plan body) p empty (none ∙ ap (λ (r : Role). no_ends r dice) (sym role)) new role (subst HasSurveys (sym setting) (record { cooked = refl; time = refl })) (has_body (not (needs_data plan.role)) plan.data_ body built.data_built is built.carries)
+plan_begins seen net s e plan body p dice empty uncancelled setting none new built is =
+    begins seen (start_of net plan dice) s e (script_of plan body) p empty uncancelled (none ∙ ap (λ (r : Role). no_ends r dice) (sym role)) new role (subst HasSurveys (sym setting) (record { cooked = refl; time = refl })) (has_body (not (needs_data plan.role)) plan.data_ body built.data_built is built.carries)
   where
     role : s.setting.role ≡ plan.role
     role = ap (λ (z : Setting). z.role) setting

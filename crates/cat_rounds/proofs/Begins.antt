@@ -27,7 +27,8 @@ use Rattle.sp_core.specs.Moving.{AreSettling}
 use Rattle.core_state.specs.OperationsStand.{AllTaken}
 use Rattle.sp_core.specs.Standing.{HasBegin, RefusedFor}
 use Rattle.sp_core.specs.Collecting.{IsOpen}
-use Rattle.sp_socket.specs.Singles.{SingleView, TookOne, IsSound}
+use Rattle.sp_socket.specs.Singles.{SingleView, TookOne}
+use Rattle.cat_rounds.specs.Parts.{IsSoundRun}
 use Rattle.cat_play.specs.Plans.{Play}
 use Rattle.cat_play.specs.Scripts.{under_way, last_result, last_send, receives_next, asks_anew, is_receive_next, over, texts, is_kind}
 use Rattle.cat_play.specs.Playing.{is_send, keeps_topics, is_left, may_rest, found_over, is_refused, is_kept_back, waits_for_pipe, waits_for_interval, deadline_for, carries_data, is_spaced}
@@ -65,8 +66,8 @@ may_send _ b r last h = refl
 pub at_new : {says : Setting → List (Turn Entry) → Turn Entry → Type 0} (s s' : SingleView) (took : TookOne says s s') (P : Setting → List (Turn Entry) → Type 0) → P s.setting (s.seen ++ took.turn ∷ []) → P s'.setting s'.seen
 at_new s s' took P p = subst (λ (z : Setting). P z s'.seen) (sym took.setting) (subst (λ (h : List (Turn Entry)). P s.setting h) (sym took.seen) p)
 
-pub sound_new : {says : Setting → List (Turn Entry) → Turn Entry → Type 0} (s s' : SingleView) (took : TookOne says s s') → IsSound s'
-sound_new s s' took = record { legal = took.legal; settled = took.settled }
+pub sound_new : {says : Setting → List (Turn Entry) → Turn Entry → Type 0} (s s' : SingleView) (took : TookOne says s s') → IsSoundRun s → IsSoundRun s'
+sound_new s s' took was = record { legal = took.legal; settled = took.settled; uncancelled = took.cancelled ∙ was.uncancelled }
 
 pub goes_on_by : {says : Setting → List (Turn Entry) → Turn Entry → Type 0} (s s' : SingleView) (took : TookOne says s s') → none_of moves_ends took.turn.entries ≡ true → GoesOnBy s s'
 goes_on_by s s' took none =
@@ -78,7 +79,7 @@ pub silent_stands : {says : Setting → List (Turn Entry) → Turn Entry → Typ
 silent_stands s s' took p t none was =
     record {
       play = at_new s s' took (λ z h. PlayStands z h p) (play_stays s.setting p s.seen (s.seen ++ took.turn ∷ []) (adds_one moves_calls s.seen took.turn none) was.play);
-      sound = sound_new s s' took;
+      sound = sound_new s s' took was.sound;
       now_is = at_new s s' took (λ z h. t ≡ now (past_of h)) (was.now_is ∙ sym (ap now (past_of-append s.seen took.turn) ∙ now_stays took.turn.entries (past_of s.seen) none));
       topics_on = at_new s s' took (λ z h. AreOn p.script.topics (past_of h)) (on_turn p.script.topics s.seen took.turn none was.topics_on);
     }
@@ -240,7 +241,7 @@ has_begun s s' took p t op act d begin opens was makes =
       stands =
           record {
             play = at_new s s' took (λ z h. IsOpen 1 op h → PlayStands z h (record p { op = Some op; last_send = noted act p.last_send t })) play_now opens;
-            sound = sound_new s s' took;
+            sound = sound_new s s' took was.sound;
             now_is = at_new s s' took (λ z h. t ≡ now (past_of h)) (was.now_is ∙ sym leaves.now_is);
             topics_on = at_new s s' took (λ z h. AreOn p.script.topics (past_of h)) (still_on p.script.topics (past_of s.seen) (past_of (s.seen ++ took.turn ∷ [])) leaves.topics_are was.topics_on);
           };

@@ -30,7 +30,8 @@ use Rattle.core_state.specs.declared.outcome.Outcome.TheVariants as outcomes
 use Rattle.core_state.specs.Ends.{outcome_of, back_of}
 use Rattle.sp_core.specs.Moving.{IsSettling}
 use Rattle.sp_core.specs.Collecting.{CollectedBy, HasTook, HasEnded}
-use Rattle.sp_socket.specs.Singles.{SingleView, TookOne, IsSound}
+use Rattle.sp_socket.specs.Singles.{SingleView, TookOne}
+use Rattle.cat_rounds.specs.Parts.{IsSoundRun}
 use Rattle.cat_text.specs.Printing.{print}
 use Rattle.cat_play.specs.Plans.{Play}
 use Rattle.cat_play.specs.Scripts.{asks_anew, under_way, counted, counts_for, over, has_reached, timed_out, is_timed_out, is_kind, texts, text_of, joined, is_received, ends_received}
@@ -141,7 +142,7 @@ over_next true (Some k) (Some d) n is r = go (d == 1) refl
 -- an operation of the player was collected, and ended like this
 pub record IsCollected (s s' : SingleView) (p : Player) (op : OpName) (act : RecordedAct) (ending : Ending) : Type 0 where
   pub setting : s'.setting ≡ s.setting
-  pub sound : IsSound s'
+  pub sound : IsSoundRun s'
   pub goes_on : GoesOnBy s s'
   pub leaves : TookLeaves s.setting (play_of p.script) op ending s.seen s'.seen
   pub act_is : act_of (past_of s'.seen) op ≡ Some act
@@ -153,7 +154,7 @@ pub is_collected : {says : Setting → List (Turn Entry) → Turn Entry → Type
 is_collected s s' took p t op b ending has ended was holds =
     record {
       setting = took.setting;
-      sound = sound_new s s' took;
+      sound = sound_new s s' took was.sound;
       goes_on = goes_on_by s s' took (subst (λ (es : List Entry). none_of moves_ends es ≡ true) (sym has.entries) (none_around moves_ends has.early (Took op 1) has.late (settling_linkless has.early has.early_settles) refl (settling_linkless has.late has.late_settles)));
       leaves = at_new s s' took (λ z h. TookLeaves s.setting (play_of p.script) op ending s.seen h) leaves;
       act_is = at_new s s' took (λ z h. act_of (past_of h) op ≡ Some b.act) found_act;

@@ -21,7 +21,7 @@ use Rattle.cat_rounds.specs.PlayerSteps.{begins_or_ticks, CollectsLast}
 use Rattle.cat_rounds.proofs.Silent.{adds_one}
 use Rattle.cat_rounds.proofs.BeginOrder.{end_grows}
 use Rattle.cat_rounds.proofs.Settling.{ends_step, settling_silent}
-use Rattle.cat_rounds.proofs.Begins.{at_new, sound_new, goes_on_by}
+use Rattle.cat_rounds.proofs.Begins.{at_new, goes_on_by}
 use Rattle.cat_rounds.proofs.CollectedByPlay.{collected_none}
 
 begins_none : (e : Entry) → IsSettling e → begins_or_ticks e ≡ false
@@ -36,7 +36,8 @@ pub collects_last : (s s' : SingleView) (r : Collected) (op : OpName) → (took 
 collects_last s s' r op took =
     record {
       setting = took.setting;
-      sound = sound_new s s' took;
+      sound = record { legal = took.legal; settled = took.settled };
+      cancelled = took.cancelled;
       links = (goes_on_by s s' took (collected_none moves_ends ends_step (λ o k. refl) r op s.seen took.turn took.said)).links;
       turns = subst (λ (h : List (Turn Entry)). AddsNone begins_or_ticks s.seen h) (sym took.seen) (adds_one begins_or_ticks s.seen took.turn (collected_none begins_or_ticks begins_none (λ o k. refl) r op s.seen took.turn took.said));
     }

@@ -14,7 +14,8 @@ use Rattle.core_state.specs.declared.pipes.DownPipe.{DownPipe}
 use Rattle.sp_core.specs.Closing.{ClosesSo, ClosedBy}
 use Rattle.sp_core.specs.Collecting.{IsOpen}
 use Rattle.sp_core.specs.Parts.{HasWires}
-use Rattle.sp_socket.specs.Singles.{SingleView, TookOne, AreUncancelled, FinishedAs, IsSound}
+use Rattle.sp_socket.specs.Singles.{SingleView, TookOne, AreUncancelled, FinishedAs, cancelled_of}
+use Rattle.cat_rounds.specs.Parts.{IsSoundRun}
 use Rattle.sp_socket.specs.Due.{AllWereDue}
 use Rattle.sp_ends.specs.EndViews.{LinkEndsView, Beginning}
 use Rattle.sp_ends.specs.RunLinks.{EndsStand, SameCounts}
@@ -32,6 +33,7 @@ use Rattle.cat_rounds.proofs.Silent.{adds_one, adds_then}
 use Rattle.cat_rounds.proofs.Through.{received_stays}
 use Rattle.cat_rounds.proofs.ClosedPlays.{IsClosedPlay, closing_play, close_linkless, past_closed, silent_before_close}
 use Rattle.cat_rounds.proofs.WrittenBeforeClose.{closed_cleared}
+use Rattle.sp_socket.proofs.CancelledWins.{none_cancelled}
 use Rattle.cat_rounds.proofs.Uncancelled.{uncancelled_each, due_each}
 
 -- what is under way stays under way with the close
@@ -47,7 +49,7 @@ hand_closed op callers h t c keeps was = go op was
 
 -- a socket was closed, and what had ended was collected, to the record
 pub record IsEnding (totals : Totals) (s s' s'' : SingleView) (p : Player) (record_ : List (Turn Entry)) : Type 0 where
-  pub sound : IsSound s
+  pub sound : IsSoundRun s
   pub play : PlayStands s.setting s.seen p
   pub closing : TookOne (λ z h t. ClosedBy totals z.callers h t) s s'
   pub last : CollectsLast s' s''
@@ -110,7 +112,7 @@ module _ (totals : Totals) (s s' s'' : SingleView) (p : Player) (record_ : List 
         timed = play_closes.timed;
         received = received_kept;
         closed = play_closes.closed;
-        plays = record { so_far = play_closes.so_far; uncancelled = uncancelled_each (past_of record_) (subst (λ (h : List (Turn Entry)). AreUncancelled (past_of h)) (sym e.whole) fin.uncancelled) };
+        plays = record { so_far = play_closes.so_far; uncancelled = uncancelled_each (past_of record_) (subst (λ (h : List (Turn Entry)). AreUncancelled (past_of h)) (sym e.whole) (none_cancelled (cancelled_of s'') (past_of s''.seen) (e.last.cancelled ∙ (e.closing.cancelled ∙ e.sound.uncancelled)) fin.cancelled)) };
         due = due_each (past_of record_) (subst (λ (h : List (Turn Entry)). AllWereDue (past_of h)) (sym e.whole) fin.due);
         cleared = all_cleared;
         left_ = left;

@@ -23,7 +23,8 @@ use Rattle.core_state.specs.declared.causes.TopicError.TheVariants as topic
 use Rattle.sp_core.specs.Contexts.{SubscribedBy, RefusedTopic}
 use Rattle.sp_core.specs.Moving.{AreSettling}
 use Rattle.sp_core.specs.Standing.{HasFirst}
-use Rattle.sp_socket.specs.Singles.{SingleView, TookOne, IsSound}
+use Rattle.sp_socket.specs.Singles.{SingleView, TookOne}
+use Rattle.cat_rounds.specs.Parts.{IsSoundRun}
 use Rattle.sp_ends.specs.EndViews.{Beginning, LinkEndsView}
 use Rattle.cat_play.specs.Plans.{Play}
 use Rattle.cat_play.specs.declared.status.Status.TheVariants as status
@@ -87,7 +88,7 @@ module _ {says : Setting → List (Turn Entry) → Turn Entry → Type 0} (s s' 
   silent_before none =
       record {
         play = at_new s s' took (λ z g. PlayStands z g p) (play_stays s.setting p h (h ++ t ∷ []) (adds_one moves_calls h t none) was.play);
-        sound = sound_new s s' took;
+        sound = sound_new s s' took was.sound;
         free = was.free;
         unticked = at_new s s' took (λ z g. has_ticked (past_of g) ≡ false) (ap has_ticked (past_of-append h t) ∙ (ticked_stays t.entries (past_of h) none ∙ was.unticked));
         unbegun = at_new s s' took (λ z g. has_begun (past_of g) ≡ false) (ap has_begun (past_of-append h t) ∙ (begun_stays t.entries (past_of h) none ∙ was.unbegun));
@@ -177,7 +178,7 @@ module _ {says : Setting → List (Turn Entry) → Turn Entry → Type 0} (s s' 
     record {
       before = record {
         play = at_new s s' took (λ z g. PlayStands z g p) topic_play;
-        sound = sound_new s s' took;
+        sound = sound_new s s' took was.sound;
         free = was.free;
         unticked = at_new s s' took (λ z g. has_ticked (past_of g) ≡ false) (through has_ticked ticked_stays s.seen took.turn e [] first.late one refl ∙ was.unticked);
         unbegun = at_new s s' took (λ z g. has_begun (past_of g) ≡ false) (through has_begun begun_stays s.seen took.turn e [] first.late one refl ∙ was.unbegun);
@@ -257,7 +258,7 @@ is_supported z ts i l can = go (has_topics z) can.supported
 
 -- ---- Before the first round
 
-pub fresh_before : (s : SingleView) (p : Player) → s.seen ≡ [] → PlayStands s.setting s.seen p → IsSound s → IsBefore s p
+pub fresh_before : (s : SingleView) (p : Player) → s.seen ≡ [] → PlayStands s.setting s.seen p → IsSoundRun s → IsBefore s p
 fresh_before s p empty play sound =
     record {
       play = play;

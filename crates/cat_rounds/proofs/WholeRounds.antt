@@ -30,7 +30,7 @@ use Rattle.cat_rounds.proofs.TopicsStay.{on_turn}
 use Rattle.cat_rounds.specs.PlayerSteps.{Stands, GoesOnBy, SameScript, HasPrintedCut}
 use Rattle.sp_lane.specs.Registry.{Registry}
 use Rattle.cat_rounds.specs.Late.{IsLateBy}
-use Rattle.cat_rounds.specs.Parts.{RunPartsView, IsRunning}
+use Rattle.cat_rounds.specs.Parts.{RunPartsView, IsRunning, IsSoundRun}
 use Rattle.cat_rounds.specs.RunRounds.{RunIsOpen, RunStands, RoundStands, SameRun, TurnsNames, PrintsRound, past_now}
 use Rattle.cat_rounds.specs.declared.rounds.Round.{Round}
 use Rattle.cat_rounds.specs.declared.rounds.Round.TheVariants as rounds
@@ -69,7 +69,7 @@ opens seen start net s s' e p n took keep run may less =
       links = at_new s s' took (λ y g. EndsTicked seen y start g net e) (ticked seen z start net h t _ _ first e legal run.ends_stand);
       stands = record {
         play = at_new s s' took (λ y g. PlayStands y g p) (ticked_play z h t n p first run.play may (λ op o. subst (λ (g : List (Turn Entry)). IsOpen 1 op g) took.seen (keep op o)));
-        sound = sound_new s s' took;
+        sound = sound_new s s' took run.sound;
         now_is = at_new s s' took (λ y g. n ≡ now (past_of g)) (ticked_now z h t n p first run.play may less);
         topics_on = at_new s s' took (λ y g. AreOn p.script.topics (past_of g)) (ticked_topics z h t n p first run.play may);
       };
@@ -91,7 +91,7 @@ pub quiet_stands : (s s' : SingleView) (p : Player) (n : ℕ) → Quietly s s' �
 quiet_stands s s' p n q sound was =
     record {
       play = subst (λ (z : Setting). PlayStands z s'.seen p) (sym q.setting) (play_stays s.setting p s.seen s'.seen q.silent was.play);
-      sound = sound;
+      sound = record { legal = sound.legal; settled = sound.settled; uncancelled = q.cancelled ∙ was.sound.uncancelled };
       now_is = keeps_all moves_calls (λ g. n ≡ now (past_of g)) (now_turn n) s.seen s'.seen q.silent was.now_is;
       topics_on = keeps_all moves_calls (λ g. AreOn p.script.topics (past_of g)) (on_turn p.script.topics) s.seen s'.seen q.silent was.topics_on;
     }
@@ -142,7 +142,7 @@ on_dry is_dry s s' g was = keeps_all moves_ends (λ h. has_dry_miss (past_of h) 
     step h t none was = ap has_dry_miss (past_of-append h t) ∙ (dry_stays t.entries (past_of h) none ∙ was)
 
 -- what holds of the run still holds after turns that move no link
-pub run_linkless : {L : Type 0} (seen : L → LinkView) (start : Beginning) (net : NetView) (s s' : SingleView) (e : LinkEndsView L) (p : Player) → GoesOnBy s s' → PlayStands s'.setting s'.seen p → IsSound s' → IsDry false s → EndsStand seen s.setting start s.seen net e → RunStands seen start s' e p net false
+pub run_linkless : {L : Type 0} (seen : L → LinkView) (start : Beginning) (net : NetView) (s s' : SingleView) (e : LinkEndsView L) (p : Player) → GoesOnBy s s' → PlayStands s'.setting s'.seen p → IsSoundRun s' → IsDry false s → EndsStand seen s.setting start s.seen net e → RunStands seen start s' e p net false
 run_linkless seen start net s s' e p g play sound dry ends =
     record {
       sound = sound;

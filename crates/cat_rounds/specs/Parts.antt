@@ -1,7 +1,9 @@
 -- What contracts see of the parts of a run, and what is true of them.
-use Rattle.std.specs.Prelude.{ℕ, Option}
+use Rattle.std.specs.Prelude.{◌≡◌, ℕ, Option, []}
 use Rattle.sp_history.specs.Past.{past_of}
-use Rattle.sp_socket.specs.Singles.{SingleView, IsSound, IsNow}
+use Rattle.sp_history.specs.Legal.{Legal}
+use Rattle.sp_history.specs.Settled.{Settled}
+use Rattle.sp_socket.specs.Singles.{SingleView, IsNow, cancelled_of}
 use Rattle.sp_lane.specs.Registry.{Registry}
 use Rattle.sp_ends.specs.EndViews.{EndsView}
 use Rattle.cat_rounds.specs.declared.player.Player.{Player}
@@ -17,9 +19,15 @@ pub record RunPartsView (L : Type 0) : Type 0 where
   pub inproc : Registry
   pub still : Option Stillness
 
+-- the history of the socket is legal and settled, and its caller has cancelled nothing
+pub record IsSoundRun (s : SingleView) : Type 0 where
+  pub legal : Legal s.setting s.seen
+  pub settled : Settled s.setting s.seen
+  pub uncancelled : cancelled_of s ≡ []
+
 -- the history of the socket is sound, and the play corresponds to it
 pub record IsRunning (s : SingleView) (p : Player) : Type 0 where
-  pub sound : IsSound s
+  pub sound : IsSoundRun s
   pub play : PlayStands s.setting s.seen p
 
 -- this is the moment, and the topics of the play are there, so an operation may begin

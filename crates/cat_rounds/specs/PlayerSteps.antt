@@ -15,7 +15,8 @@ use Rattle.core_state.specs.declared.causes.BeginError.{BeginError}
 use Rattle.core_state.specs.declared.causes.BeginError.TheVariants as error
 use Rattle.core_state.specs.declared.outcome.Outcome.{Outcome}
 use Rattle.core_state.specs.declared.outcome.Outcome.TheVariants as outcomes
-use Rattle.sp_socket.specs.Singles.{SingleView, IsSound, IsNow}
+use Rattle.sp_socket.specs.Singles.{SingleView, IsSound, IsNow, cancelled_of}
+use Rattle.cat_rounds.specs.Parts.{IsSoundRun}
 use Rattle.cat_text.specs.Printing.{print}
 use Rattle.cat_play.specs.Scripts.{texts, ends_received}
 use Rattle.cat_play.specs.Playing.{is_surveyor}
@@ -39,7 +40,7 @@ use Rattle.sp_base.specs.declared.OpName.{OpName}
 -- the play corresponds to the socket at this moment, and the socket's history is sound
 pub record Stands (s : SingleView) (p : Player) (now : ℕ) : Type 0 where
   pub play : PlayStands s.setting s.seen p
-  pub sound : IsSound s
+  pub sound : IsSoundRun s
   pub now_is : IsNow now s
   -- so an operation may begin
   pub topics_on : AreOn p.script.topics (past_of s.seen)
@@ -201,9 +202,10 @@ begins_or_ticks (Tick t due) = true
 begins_or_ticks (Begin op k c act d) = true
 begins_or_ticks _ = false
 
--- turns after the close, without a tick and without a begin, none of which moves a link
+-- turns after the close, without a tick and without a begin, none of which moves a link or cancels
 pub record CollectsLast (old new : SingleView) : Type 0 where
   pub setting : new.setting ≡ old.setting
   pub sound : IsSound new
+  pub cancelled : cancelled_of new ≡ cancelled_of old
   pub links : AddsNone moves_ends old.seen new.seen
   pub turns : AddsNone begins_or_ticks old.seen new.seen

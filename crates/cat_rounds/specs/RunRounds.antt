@@ -6,7 +6,7 @@ use Rattle.sp_history.specs.declared.entry.Entry.{Entry}
 use Rattle.sp_history.specs.Past.{past_of, up, now, is_cleared}
 use Rattle.sp_history.specs.Lists.{has}
 use Rattle.core_state.specs.declared.served.Served.{Served}
-use Rattle.sp_socket.specs.Singles.{SingleView, IsSound}
+use Rattle.sp_socket.specs.Singles.{SingleView}
 use Rattle.sp_lane.specs.Registry.{Registry}
 use Rattle.sp_ends.specs.NameTurns.{TurnsLanes}
 use Rattle.sp_ends.specs.EndViews.{EndsView, LinkEndsView, Beginning}
@@ -26,7 +26,7 @@ use Rattle.cat_rounds.specs.Lasting.{PlayStands, HasPrinted, MayTick, HasPlayed,
 use Rattle.cat_rounds.specs.PlayerSteps.{HasPrintedCut, HasFailed, PrintsOn, SameScript}
 use Rattle.sp_ends.specs.EndsTurns.{SameEnds}
 use Rattle.cat_rounds.specs.declared.stillness.Stillness.{Stillness}
-use Rattle.cat_rounds.specs.Parts.{RunPartsView}
+use Rattle.cat_rounds.specs.Parts.{IsSoundRun, RunPartsView}
 use Rattle.cat_rounds.specs.Stillness.{noted_still, gives_up}
 
 -- what holds of the ends of a run on its socket, where a link was missed when out of memory, or none was
@@ -36,7 +36,7 @@ pub record LinksStand {L : Type 0} (seen : L → LinkView) (start : Beginning) (
 
 -- the parts of a run that is open, between two calls of a round after the turn of the ends
 pub record RunStands {L : Type 0} (seen : L → LinkView) (start : Beginning) (s : SingleView) (ends : LinkEndsView L) (p : Player) (net : NetView) (is_dry : Bool) : Type 0 where
-  pub sound : IsSound s
+  pub sound : IsSoundRun s
   pub play : PlayStands s.setting s.seen p
   pub ends_stand : EndsStand seen s.setting start s.seen net ends
   pub dry : IsDry is_dry s

@@ -5,7 +5,8 @@ use Rattle.sp_history.specs.declared.setting.Setting.{Setting}
 use Rattle.sp_history.specs.Legal.{has_topic}
 use Rattle.sp_history.specs.Past.{past_of, topics}
 use Rattle.sp_history.specs.Setting.{has_topics}
-use Rattle.sp_socket.specs.Singles.{SingleView, IsSound}
+use Rattle.sp_socket.specs.Singles.{SingleView}
+use Rattle.cat_rounds.specs.Parts.{IsSoundRun}
 use Rattle.cat_play.specs.Scripts.{has_ticked, has_begun, texts}
 use Rattle.cat_rounds.specs.declared.player.Player.{Player}
 use Rattle.cat_rounds.specs.Lasting.{play_of, PlayStands, AreOn}
@@ -19,7 +20,7 @@ pub record CanSubscribe (z : Setting) (ts : List (List ℕ)) : Type 0 where
 -- the play corresponds to the socket, and neither a tick nor a begin came
 pub record IsBefore (s : SingleView) (p : Player) : Type 0 where
   pub play : PlayStands s.setting s.seen p
-  pub sound : IsSound s
+  pub sound : IsSoundRun s
   pub free : p.op ≡ None
   pub unticked : has_ticked (past_of s.seen) ≡ false
   pub unbegun : has_begun (past_of s.seen) ≡ false

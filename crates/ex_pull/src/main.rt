@@ -7,7 +7,7 @@ use proto_pipeline::Pull;
 use sp_base::{Link, Net, Pace, Role};
 use sp_node::{Node, NodeEnds};
 use sp_proto::Proto;
-use sp_real::real_side;
+use sp_real::{end_side, real_side};
 use sp_socket::Options;
 use std::env;
 use std::sync::Wait;
@@ -39,6 +39,6 @@ fn main(rt: HostRuntime) -> Result<()> {
     let listened = ends.listen(&address).context(&address);
     let mut pull = ends.start();
     let received = listened.and_then(|()| receive(&rt, &mut pull));
-    let _ = pull.finish();
+    let _ = end_side(pull.finish().side());
     received
 }

@@ -8,7 +8,7 @@ use sp_base::{Link, Net, Pace, Role};
 use sp_msg::Message;
 use sp_node::{Node, NodeEnds};
 use sp_proto::Proto;
-use sp_real::real_side;
+use sp_real::{end_side, real_side};
 use sp_socket::Options;
 use std::env;
 use std::sync::Wait;
@@ -40,7 +40,6 @@ fn main(rt: HostRuntime) -> Result<()> {
     let listened = ends.listen(&address).context(&address);
     let mut rep = ends.start();
     let answered = listened.and_then(|()| answer(&rt, &mut rep));
-    let mut end = rep.finish();
-    let _ = end.net.finish(&mut end.pace);
+    let _ = end_side(rep.finish().side());
     answered
 }

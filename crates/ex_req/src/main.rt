@@ -8,7 +8,7 @@ use sp_base::{Link, Net, Pace, Role};
 use sp_msg::Message;
 use sp_node::{Node, NodeEnds};
 use sp_proto::Proto;
-use sp_real::real_side;
+use sp_real::{end_side, real_side};
 use sp_socket::Options;
 use std::env;
 use std::sync::Wait;
@@ -42,6 +42,6 @@ fn main(rt: HostRuntime) -> Result<()> {
     let dialed = ends.dial(&address).context(&address);
     let mut req = ends.start();
     let asked = dialed.and_then(|()| ask(&rt, &mut req));
-    let _ = req.finish();
+    let _ = end_side(req.finish().side());
     asked
 }

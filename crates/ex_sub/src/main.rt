@@ -5,9 +5,9 @@
 use anyhow::{Context, Result, bail};
 use proto_pubsub::Subscribe;
 use sp_base::{Ctx, Link, Net, Pace, Role};
-use sp_node::{Node, NodeEnds};
+use sp_node::{Node, NodeEnds, WaitError};
 use sp_proto::Proto;
-use sp_real::real_side;
+use sp_real::{end_side, real_side};
 use sp_socket::Options;
 use std::env;
 use std::sync::Wait;
@@ -17,7 +17,7 @@ fn receive<R: Wait + Print + AllocGlobal, P: Proto, L: Link, N: Net<L = L>, C: P
     rt: &R,
     sub: &mut Node<'_, R, P, L, N, C>,
 ) -> Result<()> {
-    sub.subscribe(Ctx(0), b"").ok().context("Out of memory")?;
+    sub.subscribe(Ctx(0), b"").map_err(WaitError::from)?;
     for _ in 0..10 {
         let message = sub.recv(Some(10_000))?;
         let text = String::from_utf8_lossy(rt.alloc(), message.body())?;
@@ -40,6 +40,6 @@ fn main(rt: HostRuntime) -> Result<()> {
     let dialed = ends.dial(&address).context(&address);
     let mut sub = ends.start();
     let received = dialed.and_then(|()| receive(&rt, &mut sub));
-    let _ = sub.finish();
+    let _ = end_side(sub.finish().side());
     received
 }

@@ -53,6 +53,10 @@ open_ctxs_of c = c.tally.open_ctxs
 abbrev pub is_core_closed : {P W : Type 0} → Core P W → Bool
 is_core_closed c = c.closed
 
+-- its last turn has a frame, an Out, an end of an operation, or a Down
+abbrev pub has_moved : {P W : Type 0} → Core P W → Bool
+has_moved c = c.tally.moved
+
 -- its machine
 abbrev pub proto_of : {P W : Type 0} → Core P W → P
 proto_of c = c.proto

@@ -60,13 +60,13 @@ adds_both moves a b c (xs, is, n) (ys, is', n') =
     (xs ++ ys, is' ∙ (ap (λ (h : List (Turn Entry)). h ++ ys) is ∙ append_assoc a xs ys), all_both (λ (t : Turn Entry). none_of moves t.entries) xs ys n n')
 
 pub quiet_both : (a b c : SingleView) → Quietly a b → Quietly b c → Quietly a c
-quiet_both a b c q r = record { setting = r.setting ∙ q.setting; silent = adds_both moves_calls a.seen b.seen c.seen q.silent r.silent }
+quiet_both a b c q r = record { setting = r.setting ∙ q.setting; silent = adds_both moves_calls a.seen b.seen c.seen q.silent r.silent; cancelled = r.cancelled ∙ q.cancelled }
 
 pub quiet_none : (a : SingleView) → Quietly a a
-quiet_none a = record { setting = refl; silent = ([], sym (append-nil a.seen), refl) }
+quiet_none a = record { setting = refl; silent = ([], sym (append-nil a.seen), refl); cancelled = refl }
 
 pub quiet_one : (says : Setting → List (Turn Entry) → Turn Entry → Type 0) (a b : SingleView) (k : TookOne says a b) → none_of moves_calls k.turn.entries ≡ true → Quietly a b
-quiet_one says a b k n = record { setting = k.setting; silent = (k.turn ∷ [], k.seen, rw n refl) }
+quiet_one says a b k n = record { setting = k.setting; silent = (k.turn ∷ [], k.seen, rw n refl); cancelled = k.cancelled }
 
 pub sound_one : (says : Setting → List (Turn Entry) → Turn Entry → Type 0) (a b : SingleView) → TookOne says a b → IsSound b
 sound_one says a b k = record { legal = k.legal; settled = k.settled }

@@ -5,13 +5,14 @@ use Rattle.sp_history.specs.declared.entry.Entry.TheVariants.{Up}
 use Rattle.sp_history.specs.Past.{past_of}
 use Rattle.sp_ends.specs.LinkRecords.{lane_place}
 use Rattle.sp_ends.specs.LinkRecords.{has_dry_miss}
-use Rattle.sp_socket.specs.Singles.{SingleView}
+use Rattle.sp_socket.specs.Singles.{SingleView, cancelled_of}
 use Rattle.sp_ends.specs.Entries.{AddsNone, moves_calls}
 
--- the turns of a run that is open: no rule of plays concerns them
+-- the turns of a run that is open: no rule of plays concerns them, and nothing was cancelled
 pub record Quietly (old new : SingleView) : Type 0 where
   pub setting : new.setting ≡ old.setting
   pub silent : AddsNone moves_calls old.seen new.seen
+  pub cancelled : cancelled_of new ≡ cancelled_of old
 
 -- a link was missed when out of memory so far, or not
 abbrev pub IsDry : Bool → SingleView → Type 0

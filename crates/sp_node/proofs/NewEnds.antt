@@ -116,8 +116,8 @@ begins_on seen s e net reg count n =
       }),
     )
   where
-    single : s ≡ record { setting = s.setting; seen = [] }
-    single = ap (λ (h : List (Turn Entry)). let v : SingleView = record { setting = s.setting; seen = h } in v) n.fresh
+    single : s ≡ record s { seen = [] }
+    single = ap (λ (h : List (Turn Entry)). let v : SingleView = record s { seen = h } in v) n.fresh
 
 -- ---- No end yet
 

@@ -21,6 +21,7 @@ use Rattle.sp_history.specs.Once.{took_count}
 use Rattle.sp_history.specs.Past.{onto, past_of, is_closed, now, due_at, caller_of, pend, up}
 use Rattle.sp_history.specs.Found.{IsOpenOf}
 use Rattle.sp_history.specs.Legal.{Legal}
+use Rattle.sp_history.specs.Settled.{Settled}
 use Rattle.sp_history.proofs.Appending.{past_of-append}
 use Rattle.core_state.specs.declared.causes.BeginError.{BeginError}
 use Rattle.core_state.specs.declared.causes.CtxError.{CtxError}
@@ -38,7 +39,7 @@ use Rattle.sp_core.specs.Immediate.{IsLost, AreLost, HasLost, ReceivedNow}
 use Rattle.sp_core.specs.Moving.{IsSettling, AreSettling}
 use Rattle.sp_core.specs.Serving.{IsServing, AreServing}
 use Rattle.sp_core.specs.Standing.{HasFirst, HasBegin, BeganBy}
-use Rattle.sp_socket.specs.Singles.{SingleView, TookOne, Ticks, KeepsOpen, IsSound, IsNow}
+use Rattle.sp_socket.specs.Singles.{SingleView, TookOne, Ticks, KeepsOpen, IsSound, IsNow, IsStill}
 use Rattle.sp_socket.proofs.BegunOnce.{closed_before}
 use Rattle.sp_ends.specs.LinkRecords.{has_dry_miss}
 use Rattle.sp_ends.specs.Entries.{AddsNone, moves_calls, moves_ends}
@@ -175,7 +176,7 @@ unsubscribes_still (Err e) z h t c b s = settling_still t.entries s.0
 
 module _ {says : Setting → List (Turn Entry) → Turn Entry → Type 0} (s s' : SingleView) (took : TookOne says s s') where
   pub later_one : IsLater s s'
-  later_one = record { setting = took.setting; turns = took.turn ∷ []; seen = took.seen }
+  later_one = record { setting = took.setting; turns = took.turn ∷ []; seen = took.seen; cancelled = took.cancelled }
 
   pub legal_one : Legal s.setting (s.seen ++ took.turn ∷ [])
   legal_one = subst (λ (g : List (Turn Entry)). Legal s.setting g) took.seen (subst (λ (z : Setting). Legal z s'.seen) took.setting took.legal)
@@ -199,17 +200,32 @@ module _ {says : Setting → List (Turn Entry) → Turn Entry → Type 0} (s s' 
     still none was =
         but_closed closed (no_ends_in took.turn.entries none) (at_new s s' took (λ z h. is_closed (past_of h) ≡ closed) (ap is_closed past_is ∙ (entries_leave moves_node is_closed same_closed took.turn.entries (past_of s.seen) none ∙ was.closed_is))) was
 
+-- ---- A call without a turn
+
+pub stays_still : (s s' : SingleView) {L : Type 0} (seen : L → LinkView) (start : Beginning) (net : NetView) (e : LinkEndsView L) (t : ℕ) (dry closed : Bool) → IsStill s s' → NodeStands seen start s e net t dry closed → NodeStands seen start s' e net t dry closed
+stays_still s s' seen start net e t dry closed i was =
+    record {
+      sound = record { legal = along (λ z h. Legal z h) was.sound.legal; settled = along (λ z h. Settled z h) was.sound.settled };
+      ends_stand = along (λ z h. EndsStand seen z start h net e) was.ends_stand;
+      dry_is = along (λ z h. has_dry_miss (past_of h) ≡ dry) was.dry_is;
+      now_is = along (λ z h. t ≡ now (past_of h)) was.now_is;
+      closed_is = along (λ z h. is_closed (past_of h) ≡ closed) was.closed_is;
+    }
+  where
+    along : (P : Setting → List (Turn Entry) → Type 0) → P s.setting s.seen → P s'.setting s'.seen
+    along P p = subst (λ (z : Setting). P z s'.seen) (sym i.setting) (subst (λ (h : List (Turn Entry)). P s.setting h) (sym i.seen) p)
+
 -- ---- Later
 
 pub later_none : (s : SingleView) → IsLater s s
-later_none s = record { setting = refl; turns = []; seen = sym (append_nil s.seen) }
+later_none s = record { setting = refl; turns = []; seen = sym (append_nil s.seen); cancelled = refl }
 
 pub later_then : (a b c : SingleView) → IsLater a b → IsLater b c → IsLater a c
 later_then a b c x y =
-    record { setting = y.setting ∙ x.setting; turns = x.turns ++ y.turns; seen = y.seen ∙ (ap (λ (h : List (Turn Entry)). h ++ y.turns) x.seen ∙ append_assoc a.seen x.turns y.turns) }
+    record { setting = y.setting ∙ x.setting; turns = x.turns ++ y.turns; seen = y.seen ∙ (ap (λ (h : List (Turn Entry)). h ++ y.turns) x.seen ∙ append_assoc a.seen x.turns y.turns); cancelled = y.cancelled ∙ x.cancelled }
 
-pub later_none_of : (moves : Entry → Bool) (s s' : SingleView) → s'.setting ≡ s.setting → AddsNone moves s.seen s'.seen → IsLater s s'
-later_none_of moves s s' same (turns, is, none) = record { setting = same; turns = turns; seen = is }
+pub later_quiet : (s s' : SingleView) → Quietly s s' → IsLater s s'
+later_quiet s s' q = record { setting = q.setting; turns = q.silent.0; seen = q.silent.1; cancelled = q.cancelled }
 
 pub ticks_first : (s s' : SingleView) (n : ℕ) → TookOne (λ z h t. Ticks h t n) s s' → TicksFirst s s'
 ticks_first s s' n took = record { at = n; turn = took.turn; turns = []; seen = took.seen; ticks = took.said }
@@ -238,7 +254,7 @@ goes_waits old at_begin begun new op outcome x y apart waits =
     }
 
 pub told : {says also : Setting → List (Turn Entry) → Turn Entry → Type 0} (s s' : SingleView) → ((z : Setting) (h : List (Turn Entry)) (t : Turn Entry) → says z h t → also z h t) → TookOne says s s' → TookOne also s s'
-told s s' f t = record { turn = t.turn; setting = t.setting; seen = t.seen; number = t.number; legal = t.legal; settled = t.settled; said = f s.setting s.seen t.turn t.said }
+told s s' f t = record { turn = t.turn; setting = t.setting; seen = t.seen; number = t.number; legal = t.legal; settled = t.settled; said = f s.setting s.seen t.turn t.said; cancelled = t.cancelled }
 
 -- ---- The tick
 

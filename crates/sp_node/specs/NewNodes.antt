@@ -64,6 +64,7 @@ pub record IsNewNode {L : Type 0} (s : SingleView) (e : EndsView L) (net : NetVi
 pub record Begins {L : Type 0} (dice : ℕ) (kind : Kind) (v : NewNodeView L) : Type 0 where
   pub fresh : v.single.seen ≡ []
   pub setting : v.single.setting ≡ setting_of kind 16 1
+  pub wins : v.single.wins ≡ []
   pub ends : v.ends ≡ no_ends kind.role dice
 
 -- the node is as it was before its first turn

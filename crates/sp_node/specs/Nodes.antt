@@ -6,7 +6,7 @@ use Rattle.sp_base.specs.declared.OpName.{OpName}
 use Rattle.sp_history.specs.declared.entry.Entry.{Entry}
 use Rattle.sp_history.specs.Past.{past_of, is_closed}
 use Rattle.sp_core.specs.Collecting.{IsOpen}
-use Rattle.sp_socket.specs.Singles.{SingleView, IsSound, IsNow, KeepsOpen, Ticks}
+use Rattle.sp_socket.specs.Singles.{SingleView, cancelled_of, AreCancelled, IsSound, IsNow, IsStill, KeepsOpen, Ticks}
 use Rattle.sp_ends.specs.EndViews.{EndsView, LinkEndsView, Beginning}
 use Rattle.sp_ends.specs.RunLinks.{EndsStand}
 use Rattle.sp_ends.specs.SocketSteps.{IsDry}
@@ -30,16 +30,21 @@ pub record NodeStands {L : Type 0} (seen : L → LinkView) (start : Beginning) (
 
 -- ---- What a call leaves
 
--- the same socket, with more turns or none
+-- the same socket, with more turns or none, in which nothing more was cancelled
 pub record IsLater (old new : SingleView) : Type 0 where
   pub setting : new.setting ≡ old.setting
   pub turns : List (Turn Entry)
   pub seen : new.seen ≡ old.seen ++ turns
+  pub cancelled : cancelled_of new ≡ cancelled_of old
 
 -- the same node, later, and what was begun and not collected is so still
 pub record GoesOn {L : Type 0} (old new : NodeView L) : Type 0 where
   pub later : IsLater old.single new.single
   pub open_ : KeepsOpen old.single new.single
+
+-- the same node, which has won or read something without a turn
+abbrev pub StaysStill : {L : Type 0} → NodeView L → NodeView L → Type 0
+StaysStill old new = IsStill old.single new.single × (new ≡ record old { single = new.single })
 
 -- every other operation that was begun and not collected is so still
 abbrev pub KeepsOthers : OpName → SingleView → SingleView → Type 0
@@ -59,9 +64,11 @@ TicksOrCloses old new = (new.closed ≡ true) ⊎ TicksFirst old.single new.sing
 
 -- ---- The end
 
--- the record is its history and perhaps more, and since it began all links of the net are back as the record says
+-- the record is its history and perhaps more, in which what its caller had cancelled was cancelled and nothing else; and
+-- since it began all links of the net are back as the record says
 pub record Leaves (s : SingleView) (net : NetView) (record_ : List (Turn Entry)) : Type 0 where
   pub turns : List (Turn Entry)
   pub whole : record_ ≡ s.seen ++ turns
   pub start : Beginning
   pub left_ : LinksLeft s.setting start record_ net
+  pub cancelled : AreCancelled (cancelled_of s) (past_of record_)

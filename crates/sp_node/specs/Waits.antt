@@ -60,6 +60,7 @@ EndsFor act time cause old new =
 abbrev pub FailsFor : WaitError → RecordedAct → Option ℕ → SingleView → SingleView → Type 0
 FailsFor (errors.Begin why) act time old new = Refuses act time why old new
 FailsFor (errors.Gone cause) act time old new = EndsFor act time cause old new
+FailsFor (errors.Other why) act time old new = ⊥
 
 abbrev pub Receives : {L : Type 0} → Result MessageView WaitError → Option ℕ → NodeView L → NodeView L → Type 0
 Receives (Ok m) time old new = Performs acts.Recv time (outcomes.Received m) old.single new.single

@@ -1,4 +1,5 @@
-//! The calls on operations, contexts and topics, each one turn of the socket. None of them waits.
+//! The calls on operations, contexts and topics, each one turn of the socket, but `cancel` and `poll`, which take none.
+//! None of them waits.
 ghost use Rattle.std.specs.Prelude.{◌≡◌, ◌≢◌, Err, IfErr, IfOk};
 ghost use Rattle.sp_proto.specs.Kinds.{text_of};
 ghost use Rattle.sp_history.specs.declared.entry.RecordedAct.TheVariants as acts;
@@ -7,14 +8,14 @@ ghost use Rattle.sp_core.specs.Standing.{BeganBy, began};
 ghost use Rattle.sp_core.specs.Collecting.{CollectedBy, IsOpen};
 ghost use Rattle.sp_core.specs.Contexts.{OpenedBy, ShutBy, SubscribedBy, UnsubscribedBy};
 ghost use Rattle.sp_core.specs.Immediate.{ReceivedNow};
-ghost use Rattle.sp_socket.specs.Singles.{TookOne, KeepsAllBut};
-ghost use Rattle.sp_node.specs.Nodes.{GoesOn};
+ghost use Rattle.sp_socket.specs.Singles.{TookOne, KeepsAllBut, CancelsOne, LooksAt};
+ghost use Rattle.sp_node.specs.Nodes.{GoesOn, StaysStill};
 
 use crate::node::Node;
-use sp_base::{Ctx, Link, Net, Pace, Tick};
+use sp_base::{Ctx, Link, Net, OpName, Pace, Tick};
 use sp_msg::Message;
 use sp_proto::Proto;
-use sp_socket::{BeginError, Collected, CtxError, NowError, Op, TopicError};
+use sp_socket::{BeginError, Collected, CtxError, NowError, Op, Polled, Raced, TopicError};
 use std::sync::Wait;
 
 impl<R: Wait, P: Proto, L: Link, N: Net<L = L>, C: Pace> Node<'_, R, P, L, N, C> {
@@ -51,6 +52,23 @@ impl<R: Wait, P: Proto, L: Link, N: Net<L = L>, C: Pace> Node<'_, R, P, L, N, C>
         ensures turn { TookOne (λ z h t. CollectedBy result op 1 h t) self.old.single self.new.single }
     {
         self.single.collect(self.rt, op)
+    }
+
+    /// Cancels the operation (nng_aio_cancel(3)), unless it has ended. Takes no turn and no memory. What the operation
+    /// would have got stays for the next one. It is still to be collected.
+    pub fn cancel(&mut self, op: OpName) -> Raced
+        ensures still { StaysStill self.old self.new }
+        ensures raced { CancelsOne result op self.old.single self.new.single }
+    {
+        self.single.cancel(op)
+    }
+
+    /// Returns the state of the operation, as of the last turn. Takes no turn and no memory.
+    pub fn poll(&mut self, op: OpName) -> Polled
+        ensures still { StaysStill self.old self.new }
+        ensures polled { LooksAt result op self.old.single self.new.single }
+    {
+        self.single.poll(op)
     }
 
     /// Receives the oldest message that is kept for the context, if there is one (nng_recvmsg(3) with

@@ -1,6 +1,9 @@
 //! Why calls of a node are refused.
+ghost use Rattle.std.specs.Prelude.{◌≡◌};
+ghost use Rattle.sp_node.specs.declared.error.WaitError.TheVariants as waits;
+ghost use Rattle.core_state.specs.Errors.{now_number, ctx_number, topic_number};
 use sp_base::SpError;
-use sp_socket::{BeginError, Cause};
+use sp_socket::{BeginError, Cause, CtxError, NowError, TopicError};
 use std::error::Error;
 use std::fmt;
 
@@ -22,13 +25,16 @@ pub enum EndsError {
     NoMemory,
 }
 
-/// Why a call that waits returned without success (nng_recvmsg(3), nng_sendmsg(3)). Its text is that of nng_strerror(3).
+/// Why a call of a node returned without success (nng_recvmsg(3), nng_sendmsg(3)). Its text is that of nng_strerror(3).
+/// The errors of the calls on contexts and topics, and of `try_recv`, become one by `From`.
 #[derive(Clone, Copy, Debug, PartialEq, Eq)]
 pub enum WaitError {
     /// Nothing was begun.
     Begin(BeginError),
     /// What was begun ended so.
     Gone(Cause),
+    /// A call that begins nothing that could end was refused. No call that waits returns it.
+    Other(SpError),
 }
 
 impl fmt::Display for EndsError {
@@ -50,12 +56,37 @@ impl fmt::Display for WaitError {
         let why = match self {
             WaitError::Begin(why) => SpError::from(*why),
             WaitError::Gone(cause) => SpError::from(*cause),
+            WaitError::Other(why) => *why,
         };
         f.write_str(text_of(why))
     }
 }
 
 impl Error for WaitError {}
+
+impl From<NowError> for WaitError {
+    ghost from_gives = { λ why r. r ≡ waits.Other (now_number why) };
+
+    fn from(why: NowError) -> WaitError {
+        WaitError::Other(SpError::from(why))
+    }
+}
+
+impl From<CtxError> for WaitError {
+    ghost from_gives = { λ why r. r ≡ waits.Other (ctx_number why) };
+
+    fn from(why: CtxError) -> WaitError {
+        WaitError::Other(SpError::from(why))
+    }
+}
+
+impl From<TopicError> for WaitError {
+    ghost from_gives = { λ why r. r ≡ waits.Other (topic_number why) };
+
+    fn from(why: TopicError) -> WaitError {
+        WaitError::Other(SpError::from(why))
+    }
+}
 
 // The text of an error (nng_strerror(3)).
 fn text_of(why: SpError) -> &'static str {

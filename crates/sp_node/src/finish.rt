@@ -69,6 +69,21 @@ pub struct NodeEnd<N, C> {
     pub record_: Record,
 }
 
+impl<N, C> NodeEnd<N, C> {
+    /// Net and clock, as the node was opened with them.
+    pub fn side(self) -> (N, C)
+        ensures { result ≡ (self.net, self.pace) }
+    {
+        let NodeEnd {
+            net,
+            pace,
+            totals: _,
+            record_: _,
+        } = self;
+        (net, pace)
+    }
+}
+
 impl<'r, R: Wait, P: Proto, L: Link, N: Net<L = L>, C: Pace> Node<'r, R, P, L, N, C> {
     /// Goes round until no pipe has something left to write, for at most `most` milliseconds from now on, and returns
     /// whether none has. It ends earlier where the clock has no turn left, or stands still for 10,000 turns. A pipe that
@@ -119,7 +134,7 @@ impl<'r, R: Wait, P: Proto, L: Link, N: Net<L = L>, C: Pace> Node<'r, R, P, L, N
     }
 
     /// Flushes the node for at most two seconds, closes it, where it isn't closed, and gives every link back. The net may
-    /// still hold what peers haven't taken: `TcpNet::finish`, with `net` and `pace` of the result, waits for them.
+    /// still hold what peers haven't taken: `end_side` of `sp_real`, with the `side` of the result, waits for them.
     pub fn finish(self) -> NodeEnd<N, C>
         ensures left { Leaves self.entry.single (N.seen result.net) result.record_.turns }
         ensures flushed { EndsFlushed result.totals self.entry.single result.record_.turns }

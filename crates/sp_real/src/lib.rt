@@ -9,7 +9,7 @@
 //! `link` has links, `tcp` the net, `dial` its connections under way, `leave` the links that it got back, `pace` the
 //! clock, `output` standard output, `files` files and standard input, `fault` why something failed. `wake` has the
 //! links that are to be read, by what the machine reported for their sockets; links, net and pace share it. `back` has
-//! the links that a net got back, as contracts see them. `side` makes net and clock for a program.
+//! the links that a net got back, as contracts see them. `side` makes net and clock for a program, and ends them.
 #![tactic(auto)]
 
 mod back;
@@ -29,6 +29,6 @@ pub use files::RealFiles;
 pub use link::{Counts, TURN_BYTES, TcpLink};
 pub use output::RealOut;
 pub use pace::RealPace;
-pub use side::real_side;
+pub use side::{end_side, real_side};
 pub use tcp::TcpNet;
 pub use wake::Wakes;

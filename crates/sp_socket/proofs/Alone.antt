@@ -6,9 +6,7 @@ use Rattle.std.proofs.lemmas.List.{append_assoc, append-nil}
 use Rattle.turn_lock.specs.declared.turn.Turn.{Turn}
 use Rattle.turn_lock.specs.History.{turns_of, OthersAfter}
 use Rattle.sp_base.specs.declared.OpName.{OpName}
-use Rattle.aio_word.specs.declared.phase.Phase.TheVariants.{Expired}
 use Rattle.aio_word.specs.declared.rule.ShownOperation as word
-use Rattle.aio_word.specs.Views.{Each}
 use Rattle.sp_history.specs.declared.entry.Entry.{Entry}
 use Rattle.sp_history.specs.declared.setting.Setting.{Setting}
 use Rattle.sp_history.specs.Past.{onto, past_of, pending}
@@ -17,12 +15,13 @@ use Rattle.sp_history.specs.Settled.{Settled}
 use Rattle.sp_core.specs.declared.label.CoreLabel.{CoreLabel}
 use Rattle.sp_core.specs.Collecting.{IsOpen, CollectedBy}
 use Rattle.sp_socket.specs.Passes.{SocketName, PassView, ListView, IsOf, IsSamePass, KeepsSeat}
-use Rattle.sp_socket.specs.Open.{KeepsPass, IsOpenFor}
+use Rattle.sp_socket.specs.Open.{KeepsPass, IsOpenFor, TakesNoTurn}
+use Rattle.sp_socket.specs.Expiring.{WinsAndReads, wins_and_reads}
 use Rattle.sp_socket.specs.Open as opens
 use Rattle.sp_core.specs.declared.calls.collect.Collected.{Collected}
 use Rattle.sp_core.specs.declared.calls.collect.Collected.TheVariants as collected
 use Rattle.sp_socket.specs.Turns.{TookTurn, ReadsFor}
-use Rattle.sp_socket.specs.Singles.{SingleView, single_of, setting_in, IsSingle, TookOne, KeepsOpen, KeepsAllBut, StaysOpen, StaysPending}
+use Rattle.sp_socket.specs.Singles.{SingleView, single_of, setting_in, cancelled_in, known_of, IsSingle, IsStill, TookOne, KeepsOpen, KeepsAllBut, StaysOpen, StaysPending}
 
 -- in a legal history of one caller all turns are its own
 pub all_own : (z : Setting) (past : List Entry) (h : List (Turn Entry)) → z.callers ≡ 1 → LegalFrom z past h → turns_of 1 h ≡ h
@@ -68,8 +67,8 @@ module _ (s : SocketName) (l : ListView) (p q : PassView) (says : Setting → Li
       t.exact ∙ ap (λ (n : ℕ). turns_of n q.seen) (same.0 ∙ i.number) ∙ all_own t.label.setting [] q.seen (one_caller i t) t.legal
 
   -- the pass is still the socket's only one
-  pub keeps : IsSingle s l p → IsSamePass p q → Each (λ e. e.phase ≡ Expired) q.wins → TookTurn says p q → IsSingle s l q
-  keeps i same wins t =
+  pub keeps : IsSingle s l p → IsSamePass p q → TookTurn says p q → IsSingle s l q
+  keeps i same t =
       record {
         own = (same.1 ∙ i.own.0, (i.own.1.0, same.2 ∙ i.own.1.1, i.own.1.2, i.own.1.3));
         one = i.one;
@@ -80,7 +79,6 @@ module _ (s : SocketName) (l : ListView) (p q : PassView) (says : Setting → Li
         mine = own_all i same t;
         legal = subst (λ (z : Setting). Legal z q.seen) (sym (ap setting_in (same.2 ∙ t.label_is))) t.legal;
         settled = subst (λ (z : Setting). Settled z q.seen) (sym (ap setting_in (same.2 ∙ t.label_is))) t.settled;
-        wins = wins;
       }
 
   -- what it had seen is all that was before its turn
@@ -88,8 +86,8 @@ module _ (s : SocketName) (l : ListView) (p q : PassView) (says : Setting → Li
   all_seen i same t = no_others t.label.setting p.number p.seen t.past t.turn i.number t.number (one_caller i t) (subst (λ (h : List (Turn Entry)). Legal t.label.setting h) t.seen t.legal) t.others
 
   -- one more turn
-  took_one : (tells : Setting → List (Turn Entry) → Turn Entry → Type 0) → ((z : Setting) (h : List (Turn Entry)) (t : Turn Entry) → says z h t → tells z h t) → IsSingle s l p → IsSamePass p q → (t : TookTurn says p q) → TookOne tells (single_of p) (single_of q)
-  took_one tells tell i same t =
+  took_one : (tells : Setting → List (Turn Entry) → Turn Entry → Type 0) → ((z : Setting) (h : List (Turn Entry)) (t : Turn Entry) → says z h t → tells z h t) → IsSingle s l p → IsSamePass p q → cancelled_in q.wins ≡ cancelled_in p.wins → (t : TookTurn says p q) → TookOne tells (single_of p) (single_of q)
+  took_one tells tell i same none t =
       let e = all_seen i same t in
       let z = ap setting_in t.label_is in
       record {
@@ -100,16 +98,17 @@ module _ (s : SocketName) (l : ListView) (p q : PassView) (says : Setting → Li
         legal = subst (λ (z : Setting). Legal z q.seen) (sym (ap setting_in (same.2 ∙ t.label_is))) t.legal;
         settled = subst (λ (z : Setting). Settled z q.seen) (sym (ap setting_in (same.2 ∙ t.label_is))) t.settled;
         said = subst (λ (z : Setting). tells z p.seen t.turn) (sym z) (subst (λ (h : List (Turn Entry)). tells t.label.setting h t.turn) e (tell t.label.setting t.past t.turn t.said));
+        cancelled = none;
       }
 
   -- the same, for what contracts see of the socket before the turn
-  pub took : (v : SingleView) (tells : Setting → List (Turn Entry) → Turn Entry → Type 0) → single_of p ≡ v → IsSingle s l p → IsSamePass p q → TookTurn says p q → ((z : Setting) (h : List (Turn Entry)) (t : Turn Entry) → says z h t → tells z h t) → TookOne tells v (single_of q)
-  took v tells e i same t tell = subst (λ (u : SingleView). TookOne tells u (single_of q)) e (took_one tells tell i same t)
+  pub took : (v : SingleView) (tells : Setting → List (Turn Entry) → Turn Entry → Type 0) → single_of p ≡ v → IsSingle s l p → IsSamePass p q → cancelled_in q.wins ≡ cancelled_in p.wins → TookTurn says p q → ((z : Setting) (h : List (Turn Entry)) (t : Turn Entry) → says z h t → tells z h t) → TookOne tells v (single_of q)
+  took v tells e i same none t tell = subst (λ (u : SingleView). TookOne tells u (single_of q)) e (took_one tells tell i same none t)
 
 -- the same, for a statement about the caller's number
-pub took_by : (s : SocketName) (l : ListView) (p q : PassView) (says : ℕ → Setting → List (Turn Entry) → Turn Entry → Type 0) (v : SingleView) → single_of p ≡ v → IsSingle s l p → IsSamePass p q → TookTurn (says p.number) p q → TookOne (says 1) v (single_of q)
-took_by s l p q says v e i same t =
-    took s l p q (says p.number) v (says 1) e i same t (λ z h u x. subst (λ (n : ℕ). says n z h u) i.number x)
+pub took_by : (s : SocketName) (l : ListView) (p q : PassView) (says : ℕ → Setting → List (Turn Entry) → Turn Entry → Type 0) (v : SingleView) → single_of p ≡ v → IsSingle s l p → IsSamePass p q → cancelled_in q.wins ≡ cancelled_in p.wins → TookTurn (says p.number) p q → TookOne (says 1) v (single_of q)
+took_by s l p q says v e i same none t =
+    took s l p q (says p.number) v (says 1) e i same none t (λ z h u x. subst (λ (n : ℕ). says n z h u) i.number x)
 
 -- what was open for the pass still is for the caller
 pub stays_open : (s : SocketName) (l : ListView) (p q : PassView) (v : SingleView) → single_of p ≡ v → IsSingle s l p → IsSingle s l q → opens.KeepsOpen p q → KeepsOpen v (single_of q)
@@ -134,14 +133,40 @@ pub others_open : (s : SocketName) (l : ListView) (p q : PassView) (r : Collecte
 others_open s l p q (collected.NotYet o) op v e i j k = stays_open s l p q v e i j k
 others_open s l p q (collected.Ended outcome) op v e i j k = λ other apart o. open_one s l p q v other e i j (k other apart) o
 
--- its wins stay
-pub wins_stay : (s : SocketName) (l : ListView) (p q : PassView) → IsSingle s l p → KeepsSeat p q → Each (λ e. e.phase ≡ Expired) q.wins
-wins_stay s l p q i k = subst (λ (ws : List word.ShownOperation). Each (λ e. e.phase ≡ Expired) ws) (sym k.0) i.wins
+-- a call that leaves the seat cancels nothing
+pub seat_kept : (p q : PassView) → KeepsSeat p q → cancelled_in q.wins ≡ cancelled_in p.wins
+seat_kept p q k = ap cancelled_in k.0
 
--- so they do where an operation was collected or read
-pub collected_wins : (s : SocketName) (l : ListView) (p q : PassView) (r : Collected) (op : OpName) → IsSingle s l p → ReadsFor r op p q → Each (λ e. e.phase ≡ Expired) q.wins
-collected_wins s l p q (collected.NotYet o) op i f = subst (λ (ws : List word.ShownOperation). Each (λ e. e.phase ≡ Expired) ws) (sym f.wins) i.wins
-collected_wins s l p q (collected.Ended outcome) op i f = subst (λ (ws : List word.ShownOperation). Each (λ e. e.phase ≡ Expired) ws) (sym f.3.wins) i.wins
+-- so does one that reads
+pub read_kept : (p q : PassView) (r : Collected) (op : OpName) → ReadsFor r op p q → cancelled_in q.wins ≡ cancelled_in p.wins
+read_kept p q (collected.NotYet o) op f = ap cancelled_in f.wins
+read_kept p q (collected.Ended outcome) op f = ap cancelled_in f.3.wins
+
+-- ---- A call without a turn
+
+pub keeps_still : (s : SocketName) (l : ListView) (p q : PassView) → IsSingle s l p → TakesNoTurn p q → IsSingle s l q
+keeps_still s l p q i k =
+    record {
+      own = (k.same.1 ∙ i.own.0, (i.own.1.0, k.same.2 ∙ i.own.1.1, i.own.1.2, i.own.1.3));
+      one = i.one;
+      out = i.out;
+      callers = i.callers;
+      lock = i.lock;
+      number = k.same.0 ∙ i.number;
+      mine = k.mine ∙ (i.mine ∙ sym k.seen);
+      legal = subst (λ (z : Setting). Legal z q.seen) (sym (ap setting_in k.same.2)) (subst (λ (h : List (Turn Entry)). Legal (setting_in p.label) h) (sym k.seen) i.legal);
+      settled = subst (λ (z : Setting). Settled z q.seen) (sym (ap setting_in k.same.2)) (subst (λ (h : List (Turn Entry)). Settled (setting_in p.label) h) (sym k.seen) i.settled);
+    }
+
+pub stays_still : (p q : PassView) (v : SingleView) → single_of p ≡ v → TakesNoTurn p q → IsStill v (single_of q)
+stays_still p q v e k =
+    subst (λ (u : SingleView). IsStill u (single_of q)) e (record { setting = ap setting_in k.same.2; seen = k.seen })
+
+-- what such a call says of its caller's number and of the socket's slots
+pub by_one : (s : SocketName) (l : ListView) (p q : PassView) (v : SingleView) (says : ℕ → ℕ → WinsAndReads → WinsAndReads → Type 0) → single_of p ≡ v → IsSingle s l p → says p.number s.words.slots (wins_and_reads p) (wins_and_reads q) → says 1 v.setting.slots (known_of v) (known_of (single_of q))
+by_one s l p q v says e i h =
+    let slots : s.words.slots ≡ (setting_in p.label).slots = sym i.own.1.2 ∙ ap (λ (z : Setting). z.slots) (sym (ap setting_in i.own.1.1)) in
+    subst (λ (u : SingleView). says 1 u.setting.slots (known_of u) (known_of (single_of q))) e (subst (λ (n : ℕ). says 1 n (wins_and_reads p) (wins_and_reads q)) slots (subst (λ (k : ℕ). says k s.words.slots (wins_and_reads p) (wins_and_reads q)) i.number h))
 
 -- where it has not ended it stays open
 pub collected_open : (s : SocketName) (l : ListView) (p q : PassView) (r : Collected) (op : OpName) (v : SingleView) → single_of p ≡ v → IsSingle s l p → IsSingle s l q → opens.KeepsOthers r op p q → IsOpen 1 op v.seen → StaysOpen r op (single_of q)

@@ -1,6 +1,7 @@
 pub mod Alone
 pub mod ExpiredByTicks
 pub mod Cancelled
+pub mod CancelledWins
 pub mod SocketLife
 pub mod Pairs
 pub mod Tries

@@ -4,28 +4,19 @@ use Rattle.std.specs.Prelude.{⊤, ◌↔◌}
 use Rattle.std.specs.List.{range_with_len}
 use Rattle.turn_lock.specs.declared.turn.Turn.{Turn}
 use Rattle.turn_lock.specs.History.{turns_of}
-use Rattle.aio_word.specs.declared.phase.Phase.TheVariants as phase
-use Rattle.aio_word.specs.declared.rule.ShownOperation as word
-use Rattle.aio_word.specs.Views.{Stands, Each}
-use Rattle.sp_base.specs.declared.OpName.{OpName}
+use Rattle.aio_word.specs.Views.{Each}
 use Rattle.sp_base.specs.Wires.{WireView}
 use Rattle.sp_history.specs.declared.entry.Entry.{Entry}
 use Rattle.sp_history.specs.declared.setting.Setting.{Setting}
-use Rattle.sp_history.specs.Past.{past_of, ends, is_closed}
+use Rattle.sp_history.specs.Past.{past_of}
 use Rattle.sp_core.specs.declared.label.CoreLabel.{CoreLabel}
 use Rattle.core_state.specs.declared.pipes.DownPipe.{DownPipe}
-use Rattle.core_state.specs.Ends.{decided}
 use Rattle.sp_core.specs.Parts.{HasWires}
 use Rattle.sp_socket.specs.Passes.{SocketName, PassView, ListView, IsOf, new_pass, new_list}
-use Rattle.sp_socket.specs.Finishing.{IsRecord, FitsIn, HasItsWins}
-use Rattle.sp_socket.specs.Singles.{SingleView, single_of, setting_in, IsSingle, FinishedAs}
+use Rattle.sp_socket.specs.Finishing.{IsRecord, FitsIn, HasItsWins, HasItsReads, AreEndsBy, AreEndsRead}
+use Rattle.sp_socket.specs.Singles.{SingleView, single_of, setting_in, cancelled_in, cancelled_of, AreCancelled, IsNewSingle, IsSingle, FinishedAs}
 use Rattle.sp_socket.proofs.Alone.{all_own}
-use Rattle.sp_socket.proofs.Cancelled.{cancelled_by}
-use Rattle.aio_word.proofs.Entries.{Each-at}
-use Rattle.sp_socket.proofs.EndsByCaller.{stands_map}
-use Rattle.sp_history.specs.declared.entry.Cause.TheVariants.{Cancelled}
-use Rattle.sp_history.specs.declared.entry.Ending.TheVariants.{Gone}
-use Rattle.sp_history.specs.Legal.{Legal}
+use Rattle.sp_socket.proofs.CancelledWins.{are_cancelled}
 use Rattle.sp_socket.specs.Due.{AllWereDue}
 
 module _ {A : Type 0} where
@@ -51,7 +42,7 @@ module _ {A : Type 0} where
   one_last x (r ∷ rs) p e = absurd (no_cons rs p (ap rest_of e))
 
 -- the only pass of a new socket
-pub new_single : (s : SocketName) (l l2 : ListView) (z : Setting) (p : PassView) → z.callers ≡ 1 → l ≡ new_list s z → z.slots ≡ s.words.slots → s.words.callers ≡ 1 → l.items ≡ l2.items ++ p ∷ [] → l2.callers ≡ l.callers → l2.lock ≡ l.lock → IsSingle s l2 p × (p.seen ≡ []) × (setting_in p.label ≡ z)
+pub new_single : (s : SocketName) (l l2 : ListView) (z : Setting) (p : PassView) → z.callers ≡ 1 → l ≡ new_list s z → z.slots ≡ s.words.slots → s.words.callers ≡ 1 → l.items ≡ l2.items ++ p ∷ [] → l2.callers ≡ l.callers → l2.lock ≡ l.lock → IsSingle s l2 p × IsNewSingle z (single_of p)
 new_single s l l2 z p one is slots callers last same lock =
     let items : new_pass s z 1 ∷ [] ≡ l2.items ++ p ∷ [] = ap (λ (n : ℕ). map (new_pass s z) (range_with_len 1 n)) (sym one) ∙ ap (λ (x : ListView). x.items) (sym is) ∙ last in
     let o = one_last (new_pass s z 1) l2.items p items in
@@ -66,31 +57,18 @@ new_single s l l2 z p one is slots callers last same lock =
         mine = refl;
         legal = tt;
         settled = tt;
-        wins = tt;
       }),
-      ap (λ (x : PassView). x.seen) o.1,
-      ap (λ (x : PassView). setting_in x.label) o.1,
+      (ap (λ (x : PassView). x.seen) o.1, ap (λ (x : PassView). setting_in x.label) o.1, ap (λ (x : PassView). x.wins) o.1, ap (λ (x : PassView). x.reads) o.1),
     )
 
 -- ---- The end
-
--- an operation that was cancelled was cancelled by the one caller, whose wins are only expired operations
-wins_no_cancel : (z : Setting) (h : List (Turn Entry)) (p : PassView) → z.callers ≡ 1 → Legal z h → p.number ≡ 1 → Each (λ e. e.phase ≡ phase.Expired) p.wins → HasItsWins h p → (op : OpName) (by : ℕ) → Stands (op, Gone Cancelled by) (ends (past_of h)) → ⊥
-wins_no_cancel z h p one l number wins has op by s =
-    let r = cancelled_by z h op by l s in
-    let e = decided (op, Gone Cancelled by) in
-    let by_is : by ≡ p.number = omega (arith, r.0, r.1, one, number) in
-    let w = (has e).1 (stands_map decided (op, Gone Cancelled by) (ends (past_of h)) s, by_is) in
-    not_expired (Each-at (λ (x : word.ShownOperation). x.phase ≡ phase.Expired) p.wins e w wins)
-  where
-    not_expired : phase.Cancelled ≡ phase.Expired → ⊥
-    not_expired e = search (e, rules)
 
 pub finished : {W : Type 0} (shown : W → WireView) (s : SocketName) (l : ListView) (p : PassView) (v : SingleView) (h : List (Turn Entry)) (ws : List (DownPipe W)) (label : CoreLabel) (ps : List PassView) → single_of p ≡ v → IsSingle s l p → ps ≡ l.items ++ p ∷ [] → IsRecord label h ps → HasWires shown ws label.setting (past_of h) → FinishedAs shown v ws h
 finished shown s l p v h ws label ps e i items r w =
     let ps_is : ps ≡ p ∷ [] = items ∙ ap (λ (x : List PassView). x ++ p ∷ []) i.out in
     let fits = (subst (Each (FitsIn h label)) ps_is r.passes).0 in
     let wins = (subst (Each (HasItsWins h)) ps_is r.wins).0 in
+    let reads = (subst (Each (HasItsReads h)) ps_is r.reads).0 in
     let z : setting_in p.label ≡ label.setting = ap setting_in fits.2 in
     let one : label.setting.callers ≡ 1 = ap (λ (x : Setting). x.callers) (sym z ∙ ap setting_in i.own.1.1) ∙ i.own.1.3 ∙ i.one in
     let all : h ≡ p.seen = sym (all_own label.setting [] h one r.legal) ∙ ap (λ (n : ℕ). turns_of n h) (sym i.number) ∙ sym fits.1 ∙ i.mine in
@@ -98,6 +76,8 @@ finished shown s l p v h ws label ps e i items r w =
     record {
       whole = seen;
       wires_are = subst (λ (g : List (Turn Entry)). HasWires shown ws v.setting (past_of g)) seen (subst (λ (x : Setting). HasWires shown ws x (past_of h)) (sym z ∙ ap (λ (x : SingleView). x.setting) e) w);
-      uncancelled = λ op by t. wins_no_cancel label.setting h p one r.legal i.number i.wins wins op by (subst (λ (g : List (Turn Entry)). Stands (op, Gone Cancelled by) (ends (past_of g))) (sym seen) t);
+      wins = subst (λ (x : SingleView). AreEndsBy 1 v.seen x.wins) e (subst (λ (g : List (Turn Entry)). AreEndsBy 1 g p.wins) seen (subst (λ (n : ℕ). AreEndsBy n h p.wins) i.number wins));
+      reads = subst (λ (x : SingleView). AreEndsRead v.seen x.reads) e (subst (λ (g : List (Turn Entry)). AreEndsRead g p.reads) seen reads);
+      cancelled = subst (λ (x : SingleView). AreCancelled (cancelled_of x) (past_of v.seen)) e (subst (λ (g : List (Turn Entry)). AreCancelled (cancelled_in p.wins) (past_of g)) seen (are_cancelled label.setting h p one r.legal i.number wins));
       due = subst (λ (g : List (Turn Entry)). AllWereDue (past_of g)) seen r.due;
     }

@@ -180,6 +180,20 @@ look_more r k slots op before mid after l t p =
       reads = g.1.1 ∙ ap (λ (es : List word.ShownOperation). es ++ g.1.0) l.reads ∙ grouped before.reads l.more g.1.0;
     }
 
+-- more looks after looks
+pub looked_twice : (before mid after : PassView) → HasLookedOn before mid → HasLookedOn mid after → HasLookedOn before after
+looked_twice before mid after l m =
+    record {
+      still = record { same = same_twice before mid after l.still.same m.still.same; seen = m.still.seen ∙ l.still.seen; mine = m.still.mine ∙ l.still.mine; open_ = λ x h. m.still.open_ x (l.still.open_ x h) };
+      wins = m.wins ∙ l.wins;
+      more = l.more ++ m.more;
+      reads = m.reads ∙ ap (λ (es : List word.ShownOperation). es ++ m.more) l.reads ∙ grouped before.reads l.more m.more;
+    }
+
+-- one look
+pub looked_once : (r : Polled) (k slots : ℕ) (op : OpName) (before after : PassView) → TakesNoTurn before after → PolledAs r k slots op (wins_and_reads before) (wins_and_reads after) → HasLookedOn before after
+looked_once r k slots op before after t p = look_more r k slots op before before after (no_look before) t p
+
 -- the last turn
 pub turn_last : (op : OpName) (outcome : Outcome) (before mid after : PassView) → Waits op before mid → TookTurn (λ z h t. CollectedBy (collected.Ended outcome) op mid.number h t) mid after → ReadsFor (collected.Ended outcome) op mid after → WaitedFor outcome op before after
 turn_last op outcome before mid after w t r =

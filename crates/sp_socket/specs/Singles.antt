@@ -1,9 +1,13 @@
 -- What contracts see of a socket with one caller.
-use Rattle.std.specs.Prelude.{◌≡◌, ◌≢◌, ℕ, ⊤, false, List, [], ◌∷◌, ◌++◌, Option, Some, None}
+use Rattle.std.specs.Prelude.{◌≡◌, ◌≢◌, ◌↔◌, ℕ, ⊤, false, List, [], ◌∷◌, ◌++◌, Option, Some, None}
 use Rattle.turn_lock.specs.declared.turn.Turn.{Turn}
 use Rattle.sp_base.specs.declared.role.Role.TheVariants.{Pull}
-use Rattle.aio_word.specs.declared.phase.Phase.TheVariants.{Expired}
-use Rattle.aio_word.specs.Views.{Each, Stands}
+use Rattle.aio_word.specs.declared.phase.Phase.{Phase}
+use Rattle.aio_word.specs.declared.phase.Phase.TheVariants as phase
+use Rattle.aio_word.specs.declared.results.Polled.{Polled}
+use Rattle.aio_word.specs.declared.results.Raced.{Raced}
+use Rattle.aio_word.specs.declared.rule.ShownOperation as word
+use Rattle.aio_word.specs.Views.{Stands}
 use Rattle.sp_base.specs.Wires.{WireView}
 use Rattle.sp_history.specs.declared.entry.Cause.TheVariants.{Cancelled}
 use Rattle.sp_history.specs.declared.entry.Ending.TheVariants.{Gone}
@@ -21,13 +25,31 @@ use Rattle.sp_core.specs.declared.calls.collect.Collected.TheVariants as collect
 use Rattle.sp_core.specs.Collecting.{DueBy, IsOpen}
 use Rattle.sp_core.specs.Parts.{HasWires}
 use Rattle.sp_base.specs.declared.OpName.{OpName}
-use Rattle.sp_socket.specs.Due.{AllWereDue}
+use Rattle.sp_socket.specs.Due.{AllWereDue, op_of}
+use Rattle.sp_socket.specs.Expiring.{WinsAndReads, PolledAs, RacedAs}
+use Rattle.sp_socket.specs.Finishing.{AreEndsBy, AreEndsRead}
 use Rattle.sp_socket.specs.Passes.{SocketName, PassView, ListView, IsOf}
 
--- the socket's setting, and its history
+-- the socket's setting, its history, and what its caller has ended and read without a turn
 pub record SingleView : Type 0 where
   pub setting : Setting
   pub seen : List (Turn Entry)
+  pub wins : List word.ShownOperation
+  pub reads : List word.ShownOperation
+
+-- with this operation, where it was cancelled
+abbrev pub with_cancelled : Phase → OpName → List OpName → List OpName
+with_cancelled phase.Cancelled op ops = op ∷ ops
+with_cancelled _ op ops = ops
+
+-- those of these that were cancelled
+abbrev pub cancelled_in : List word.ShownOperation → List OpName
+cancelled_in [] = []
+cancelled_in (e ∷ es) = with_cancelled e.phase (op_of e) (cancelled_in es)
+
+-- the operations that its caller has cancelled
+abbrev pub cancelled_of : SingleView → List OpName
+cancelled_of s = cancelled_in s.wins
 
 -- its history is legal and settled
 pub record IsSound (s : SingleView) : Type 0 where
@@ -44,9 +66,13 @@ setting_in None = record { role = Pull; raw = false; options = usual Pull 0; slo
 setting_in (Some label) = label.setting
 
 abbrev pub single_of : PassView → SingleView
-single_of p = record { setting = setting_in p.label; seen = p.seen }
+single_of p = record { setting = setting_in p.label; seen = p.seen; wins = p.wins; reads = p.reads }
 
--- the pass is the socket's only one, it is out, and all turns are its own; it has ended only what fell due
+-- it has no turn yet, and this setting
+abbrev pub IsNewSingle : Setting → SingleView → Type 0
+IsNewSingle z s = (s.seen ≡ []) × (s.setting ≡ z) × (s.wins ≡ []) × (s.reads ≡ [])
+
+-- the pass is the socket's only one, it is out, and all turns are its own
 pub record IsSingle (s : SocketName) (l : ListView) (p : PassView) : Type 0 where
   pub own : IsOf s p
   pub one : s.words.callers ≡ 1
@@ -57,9 +83,8 @@ pub record IsSingle (s : SocketName) (l : ListView) (p : PassView) : Type 0 wher
   pub mine : p.mine ≡ p.seen
   pub legal : Legal (setting_in p.label) p.seen
   pub settled : Settled (setting_in p.label) p.seen
-  pub wins : Each (λ e. e.phase ≡ Expired) p.wins
 
--- the history has one more turn, the caller's, of which `says` holds; and it is legal and settled
+-- the history has one more turn, the caller's, of which `says` holds; it is legal and settled, and nothing was cancelled
 pub record TookOne (says : Setting → List (Turn Entry) → Turn Entry → Type 0) (before after : SingleView) : Type 0 where
   pub turn : Turn Entry
   pub setting : after.setting ≡ before.setting
@@ -68,6 +93,7 @@ pub record TookOne (says : Setting → List (Turn Entry) → Turn Entry → Type
   pub legal : Legal after.setting after.seen
   pub settled : Settled after.setting after.seen
   pub said : says before.setting before.seen turn
+  pub cancelled : cancelled_of after ≡ cancelled_of before
 
 -- the caller's operations that are not collected stay so
 abbrev pub KeepsOpen : SingleView → SingleView → Type 0
@@ -92,16 +118,40 @@ StaysPending (collected.Ended outcome) op s = ⊤
 abbrev pub Ticks : List (Turn Entry) → Turn Entry → ℕ → Type 0
 Ticks h t now = (due : List OpName) × DueBy h t now [] due
 
+-- ---- Calls without a turn
+
+-- the same setting and history
+pub record IsStill (before after : SingleView) : Type 0 where
+  pub setting : after.setting ≡ before.setting
+  pub seen : after.seen ≡ before.seen
+
+abbrev pub known_of : SingleView → WinsAndReads
+known_of s = (s.wins, s.reads)
+
+-- the caller tried to cancel the operation
+abbrev pub CancelsOne : Raced → OpName → SingleView → SingleView → Type 0
+CancelsOne r op before after = RacedAs phase.Cancelled r 1 before.setting.slots op (known_of before) (known_of after)
+
+-- the caller looked at the operation
+abbrev pub LooksAt : Polled → OpName → SingleView → SingleView → Type 0
+LooksAt r op before after = PolledAs r 1 before.setting.slots op (known_of before) (known_of after)
+
 -- ---- The end
+
+-- what was cancelled is these
+abbrev pub AreCancelled : List OpName → List Entry → Type 0
+AreCancelled ops past = (op : OpName) → Stands op ops ↔ ((by : ℕ) × Stands (op, Gone Cancelled by) (ends past))
 
 -- no operation was cancelled
 abbrev pub AreUncancelled : List Entry → Type 0
 AreUncancelled past = (op : OpName) (by : ℕ) → Stands (op, Gone Cancelled by) (ends past) → ⊥
 
--- what is left of a finished socket: its wires, and the record of its history, in which nothing was cancelled, and each
--- operation that timed out was due
+-- what is left of a finished socket: its wires, and the record of its history. What its caller has ended and read without
+-- a turn stands there, what was cancelled is what the caller cancelled, and each operation that timed out was due
 pub record FinishedAs {W : Type 0} (shown : W → WireView) (s : SingleView) (wires : List (DownPipe W)) (record_ : List (Turn Entry)) : Type 0 where
   pub whole : record_ ≡ s.seen
   pub wires_are : HasWires shown wires s.setting (past_of s.seen)
-  pub uncancelled : AreUncancelled (past_of s.seen)
+  pub wins : AreEndsBy 1 s.seen s.wins
+  pub reads : AreEndsRead s.seen s.reads
+  pub cancelled : AreCancelled (cancelled_of s) (past_of s.seen)
   pub due : AllWereDue (past_of s.seen)

@@ -21,7 +21,9 @@ impl<P: Proto, W: Wire> Socket<P, W> {
         ensures raced { RacedAs phase.Cancelled result pass.old.number self.now.words.slots op (wins_and_reads pass.old) (wins_and_reads pass.new) }
         ensures rule { op.slot < self.now.words.slots → IsKnownPass self.now.words.slots pass.new }
     {
-        self.words.cancel(&mut pass.parts.seat, op)
+        let raced = self.words.cancel(&mut pass.parts.seat, op);
+        self.wake_where(matches!(raced, Raced::Won));
+        raced
     }
 
     /// Returns the state of the operation. One look at its word, and no turn: it doesn't wait, and takes no memory.

@@ -42,7 +42,11 @@ impl<P: Proto, W: Wire> Socket<P, W> {
         requires closed { HasSeenClose self passes.items }
         ensures { IsFinished W.shown result.wires result.record_.turns passes.items }
     {
-        let Socket { lock, words: _ } = self;
+        let Socket {
+            lock,
+            words: _,
+            waiters: _,
+        } = self;
         let SocketPasses { turns, mut parts } = passes;
         let (held, pass) = lock.end(rt, turns);
         let mut core = held.into_core();

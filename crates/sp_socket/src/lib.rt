@@ -34,8 +34,9 @@ mod single_calls;
 mod socket;
 mod turn_calls;
 mod wait;
+mod waiters;
 
-pub use aio_word::{Polled, Raced};
+pub use aio_word::{Phase, Polled, Raced};
 pub use begin::open;
 pub use config::{Config, OpenError, Ticked};
 pub use finish::Finished;

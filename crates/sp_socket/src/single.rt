@@ -2,7 +2,7 @@
 ghost use Rattle.std.specs.Prelude.{◌≡◌, ◌≤◌, ◌<◌, [], IfOk, true};
 ghost use Rattle.sp_proto.specs.Kinds.{Kind, Starts, setting_of};
 ghost use Rattle.sp_history.specs.Past.{past_of, is_closed};
-ghost use Rattle.sp_socket.specs.Singles.{FinishedAs};
+ghost use Rattle.sp_socket.specs.Singles.{FinishedAs, IsNewSingle};
 
 use crate::begin::open;
 use crate::config::Config;
@@ -50,7 +50,7 @@ impl<P: Proto + Drop, W: Wire> Single<P, W> {
     pub fn open(alloc: Global, proto: P, slots: u32) -> Result<Single<P, W>, NoMemory>
         requires starts { (k : Kind) × Starts P.ties proto k }
         requires slots { (1 ≤ slots) × (slots ≤ 4096) }
-        ensures { IfOk result (λ s. (s.seen ≡ []) × (s.setting ≡ setting_of (P.kind proto) slots 1)) }
+        ensures { IfOk result (IsNewSingle (setting_of (P.kind proto) slots 1)) }
     {
         let config = Config { slots, callers: 1 };
         match open(alloc, proto, config) {

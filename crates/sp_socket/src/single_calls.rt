@@ -1,4 +1,4 @@
-//! The calls of a socket with one caller, each one turn.
+//! The calls of a socket with one caller, each one turn, but `cancel` and `poll`, which take none.
 ghost use Rattle.std.specs.Prelude.{◌≡◌, ◌≢◌, Err, IfErr, IfOk, true};
 ghost use Rattle.sp_proto.specs.Kinds.{text_of};
 ghost use Rattle.sp_history.specs.declared.entry.RecordedAct.TheVariants as acts;
@@ -15,9 +15,11 @@ ghost use Rattle.core_state.specs.Wires.{numbers_of, IsUnused};
 ghost use Rattle.sp_core.specs.Attaching.{AttachedBy, attached, TookWire};
 ghost use Rattle.sp_socket.specs.Turns.{AllEnded};
 ghost use Rattle.sp_socket.specs.Singles.{TookOne, Ticks, KeepsOpen, KeepsAllBut, StaysOpen, StaysPending};
+ghost use Rattle.sp_socket.specs.Singles.{IsStill, CancelsOne, LooksAt};
 
 use crate::single::Single;
-use sp_base::{Ctx, PipeId, Tick};
+use aio_word::{Polled, Raced};
+use sp_base::{Ctx, OpName, PipeId, Tick};
 use sp_core::{
     AttachError, BeginError, Collected, CtxError, Gone, NowError, Op, Served, TopicError,
 };
@@ -73,6 +75,23 @@ impl<P: Proto, W: Wire> Single<P, W> {
         ensures turn { TookOne (λ z h t. CollectedBy result op 1 h t) self.old self.new }
     {
         self.socket.collect(rt, &mut self.pass, op)
+    }
+
+    /// Cancels the operation (nng_aio_cancel(3)), unless it has ended. Takes no turn and no memory. What the operation
+    /// would have got stays for the next one. It is still to be collected.
+    pub fn cancel(&mut self, op: OpName) -> Raced
+        ensures still { IsStill self.old self.new }
+        ensures raced { CancelsOne result op self.old self.new }
+    {
+        self.socket.cancel(&mut self.pass, op)
+    }
+
+    /// Returns the state of the operation. Takes no turn and no memory.
+    pub fn poll(&mut self, op: OpName) -> Polled
+        ensures still { IsStill self.old self.new }
+        ensures polled { LooksAt result op self.old self.new }
+    {
+        self.socket.poll(&mut self.pass, op)
     }
 
     /// Receives the oldest message that is kept for the context, if there is one (nng_recvmsg(3) with

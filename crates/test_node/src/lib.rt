@@ -1,6 +1,9 @@
-//! Tests of nodes over memory: messages over a link and within the process, how a node ends, refusals, and their texts.
+//! Tests of nodes over memory: messages over a link and within the process, cancels, how a node ends, refusals, and their
+//! texts.
 #![tactic(auto)]
 
+#[cfg(test)]
+mod cancels;
 #[cfg(test)]
 mod checks;
 #[cfg(test)]

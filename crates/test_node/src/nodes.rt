@@ -11,10 +11,10 @@ use std::process::Abort;
 use std::sync::Wait;
 
 /// What a push says first (the greeting of SP over TCP), and then one message.
-const PUSHED: &[u8] = b"\0SP\0\0\x50\0\0\0\0\0\0\0\0\0\x05hello";
+pub const PUSHED: &[u8] = b"\0SP\0\0\x50\0\0\0\0\0\0\0\0\0\x05hello";
 
 /// A pull over memory, and its net.
-type Pulls<'r, R> = Node<'r, R, Pull, NetLink, MemNet, MemPace>;
+pub type Pulls<'r, R> = Node<'r, R, Pull, NetLink, MemNet, MemPace>;
 
 // A net in which one link comes to the first listener, on which these bytes come; its calls with these numbers fail.
 fn net_of<R: Abort + AllocGlobal>(rt: &R, bytes: &[u8], fails: Vec<u64>) -> MemNet {
@@ -47,8 +47,12 @@ fn pull_ends<'r, R: Wait + Abort + AllocGlobal>(
     )
 }
 
-// A pull that listens.
-fn pull<'r, R: Wait + Abort + AllocGlobal>(rt: &'r R, bytes: &[u8], turns: u64) -> Pulls<'r, R> {
+/// A pull that listens.
+pub fn pull<'r, R: Wait + Abort + AllocGlobal>(
+    rt: &'r R,
+    bytes: &[u8],
+    turns: u64,
+) -> Pulls<'r, R> {
     let mut ends = pull_ends(rt, net_of(rt, bytes, Vec::new(rt.alloc())), turns);
     same(rt, ends.listen("tcp://127.0.0.1:5555"), Ok(()));
     ends.start()

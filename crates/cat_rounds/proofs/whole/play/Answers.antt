@@ -1,5 +1,6 @@
 use Rattle.std.proofs.Common.{◌≡◌, false, sym, ap, ◌∙◌, subst, List}
 use Rattle.std.specs.Option.{option_map}
+use Rattle.sp_socket.specs.Singles.{cancelled_in}
 use Rattle.sp_ends.specs.EndViews.{EndsView}
 use Rattle.cat_text.specs.declared.plan.End.{End}
 use Rattle.cat_play.specs.declared.status.Status.{Status}
@@ -26,7 +27,7 @@ setting_is g c =
 -- what holds of the run holds here
 begun : (g : Over) (c : After-new-2 g) → let net = g.N.Net.seen c.args.net.now in RunStands g.N.L.Link.seen (start_of net c.args.planned.plan c.args.planned.dice) c.in-Ok-open.single c.in-Ok-new.links.links c.new-2.result net false
 begun g c =
-    plan_begins g.N.L.Link.seen (g.N.Net.seen c.args.net.now) c.in-Ok-open.single c.in-Ok-new.links.links c.args.planned.plan c.body_of.result c.new-2.result c.args.planned.dice c.in-Ok-open.ensures.0 (setting_is g c) (ap (λ (w : EndsView _). w.links) c.in-Ok-new.ensures) c.new-2.ensures c.requires.built c.body_of.ensures
+    plan_begins g.N.L.Link.seen (g.N.Net.seen c.args.net.now) c.in-Ok-open.single c.in-Ok-new.links.links c.args.planned.plan c.body_of.result c.new-2.result c.args.planned.dice c.in-Ok-open.ensures.0 (ap cancelled_in c.in-Ok-open.ensures.2) (setting_is g c) (ap (λ (w : EndsView _). w.links) c.in-Ok-new.ensures) c.new-2.ensures c.requires.built c.body_of.ensures
 
 -- its ends are those of the plan
 of_plan : (g : Over) (c : After-as_slice g) → AllByRecursion (IsEndOf (origins_of c.args.planned.plan c.args.planned.dice)) c.as_slice.result.now

@@ -76,7 +76,7 @@ returns-then-turn-clause-stands g c = rw (← c.self.view_is) (λ start links.
     let p = c.self.inside.player in
     let t = c.turn-turn.ensures in
     let st = quiet_stands s1 s2 p c.args.now t.quietly t.sound o.stands in
-    (c.turn-turn.result.is_dry, record { sound = t.sound; play = st.play; ends_stand = t.stands start o.links; dry = t.dry }))
+    (c.turn-turn.result.is_dry, record { sound = st.sound; play = st.play; ends_stand = t.stands start o.links; dry = t.dry }))
 
 pub returns-then-turn-clause-ticked : goal.returns-then-turn-clause-ticked
 returns-then-turn-clause-ticked g c = rw (← c.self.view_is) (

@@ -1,7 +1,10 @@
 use Rattle.std.proofs.Common.{◌∙◌, ap, subst, ◌++◌, List, append_assoc}
 use Rattle.turn_lock.specs.declared.turn.Turn.{Turn}
 use Rattle.sp_history.specs.declared.entry.Entry.{Entry}
+use Rattle.sp_base.specs.declared.OpName.{OpName}
 use Rattle.sp_history.specs.declared.setting.Setting.{Setting}
+use Rattle.sp_history.specs.Past.{past_of}
+use Rattle.sp_socket.specs.Singles.{AreCancelled}
 use Rattle.sp_ends.specs.LeftLinks.{LinksLeft}
 use Rattle.sp_node.proofs.Steps.{later_then}
 use Rattle.sp_node.proofs.node.Node.finish.Goals as goal
@@ -18,6 +21,7 @@ returns-clause-left g c =
       whole = end.whole ∙ (ap (λ (h : List (Turn Entry)). h ++ end.turns) later.seen ∙ append_assoc old.seen later.turns end.turns);
       start = end.start;
       left_ = subst (λ (z : Setting). LinksLeft z end.start c.into_end.result.record_.turns (g.N.Net.seen c.into_end.result.net)) later.setting end.left_;
+      cancelled = subst (λ (ops : List OpName). AreCancelled ops (past_of c.into_end.result.record_.turns)) later.cancelled end.cancelled;
     }
 
 pub returns-clause-flushed : goal.returns-clause-flushed

@@ -1,7 +1,7 @@
 use Rattle.std.proofs.Common.{◌≡◌, ◌∙◌, ◌≤◌, ap, subst, sym, Bool, false}
 use Rattle.sp_ends.specs.Entries.{moves_calls}
 use Rattle.sp_node.specs.Nodes.{NodeView, NodeStands}
-use Rattle.sp_node.proofs.Steps.{HasTicked, ticks_on, turns_on, later_one, later_none_of, later_then, quiet_open, ticks_first, ticks_later}
+use Rattle.sp_node.proofs.Steps.{HasTicked, ticks_on, turns_on, later_one, later_quiet, later_then, quiet_open, ticks_first, ticks_later}
 use Rattle.sp_node.proofs.node.Node.tick_and_turn.Given.{Over}
 use Rattle.sp_node.proofs.node.Node.tick_and_turn.Goals.{After-tick}
 use Rattle.sp_node.proofs.node.Node.tick_and_turn.Goals as goal
@@ -45,7 +45,7 @@ returns-clause-goes_on g c = rw (← c.self.view_is) (
     let s2 = c.turn-turn.new.single in
     let q = c.turn-turn.ensures.quietly in
     record {
-      later = later_then s0 s1 s2 (later_one s0 s1 c.tick.ensures.turn) (later_none_of moves_calls s1 s2 q.setting q.silent);
+      later = later_then s0 s1 s2 (later_one s0 s1 c.tick.ensures.turn) (later_quiet s1 s2 q);
       open_ = λ op o. quiet_open s1 s2 q op (c.tick.ensures.open_ op o);
     })
 
@@ -55,4 +55,4 @@ returns-clause-ticks g c = rw (← c.self.view_is) (
     let s1 = c.tick.new.self in
     let s2 = c.turn-turn.new.single in
     let q = c.turn-turn.ensures.quietly in
-    ticks_later s0 s1 s2 (ticks_first s0 s1 c.args.now c.tick.ensures.turn) (later_none_of moves_calls s1 s2 q.setting q.silent))
+    ticks_later s0 s1 s2 (ticks_first s0 s1 c.args.now c.tick.ensures.turn) (later_quiet s1 s2 q))

@@ -3,14 +3,14 @@ use Rattle.sp_proto.specs.Kinds.{text_of}
 use Rattle.sp_history.specs.declared.entry.RecordedAct.TheVariants as acts
 use Rattle.core_state.specs.declared.causes.BeginError.TheVariants as error
 use Rattle.sp_core.specs.Standing.{BeganBy, began}
-use Rattle.sp_socket.proofs.Alone.{keeps, took_by, stays_open, wins_stay, opened}
+use Rattle.sp_socket.proofs.Alone.{keeps, took_by, stays_open, seat_kept, opened}
 use Rattle.sp_socket.proofs.single.Single.begin_recv.Goals as goal
 
 pub invariant_of-self : goal.invariant_of-self
 invariant_of-self g c =
     let m = c.begin_recv in
     let i = c.self.inside in
-    keeps i.socket i.passes i.pass m.new.pass _ c.self.invariant m.ensures.pass.same (wins_stay i.socket i.passes i.pass m.new.pass c.self.invariant m.ensures.pass.seat) m.ensures.turn
+    keeps i.socket i.passes i.pass m.new.pass _ c.self.invariant m.ensures.pass.same m.ensures.turn
 
 pub returns-clause-open_ : goal.returns-clause-open_
 returns-clause-open_ g c =
@@ -22,7 +22,7 @@ pub returns-clause-turn : goal.returns-clause-turn
 returns-clause-turn g c =
     let m = c.begin_recv in
     let i = c.self.inside in
-    took_by i.socket i.passes i.pass m.new.pass (λ n z h t. BeganBy m.result z h t n c.args.c acts.Recv c.args.deadline × (m.result ≢ Err error.NoMemory)) c.args.self.now c.self.view_is c.self.invariant m.ensures.pass.same m.ensures.turn
+    took_by i.socket i.passes i.pass m.new.pass (λ n z h t. BeganBy m.result z h t n c.args.c acts.Recv c.args.deadline × (m.result ≢ Err error.NoMemory)) c.args.self.now c.self.view_is c.self.invariant m.ensures.pass.same (seat_kept i.pass m.new.pass m.ensures.pass.seat) m.ensures.turn
 
 pub returns-clause-opens : goal.returns-clause-opens
 returns-clause-opens g c =

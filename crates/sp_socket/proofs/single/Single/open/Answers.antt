@@ -13,5 +13,4 @@ pub returns : goal.returns
 returns g c =
     let ok = c.in-Ok.ensures.ok in
     let l = c.in-Some.ensures in
-    let r = new_single c.in-Ok.socket c.in-Ok.passes c.pop.new.self (setting_of (g.P.Proto.kind c.args.proto) c.args.slots 1) c.in-Some.pass refl ok.1 (sym ok.2) ok.3 l.last l.same.0 l.same.1 in
-    (r.1, r.2)
+    (new_single c.in-Ok.socket c.in-Ok.passes c.pop.new.self (setting_of (g.P.Proto.kind c.args.proto) c.args.slots 1) c.in-Some.pass refl ok.1 (sym ok.2) ok.3 l.last l.same.0 l.same.1).1

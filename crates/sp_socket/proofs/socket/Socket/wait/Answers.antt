@@ -41,8 +41,8 @@ loop-preserved g c =
     let back = c.in-NotYet.back in
     let is = c.loop.invariant.op in
     record {
-      waits = looked_more c.args.op c.args.pass.now after c.look_on.new.pass (turn_more c.args.op back c.args.pass.now mid after c.loop.invariant.waits e.same
+      waits = looked_more c.args.op c.args.pass.now after c.await_end.new.pass (turn_more c.args.op back c.args.pass.now mid after c.loop.invariant.waits e.same
           (subst (λ (o : OpName). TookTurn (λ z h t. CollectedBy (collected.NotYet back) o mid.number h t) mid after) is e.turn)
-          (subst (λ (o : OpName). ReadsFor (collected.NotYet back) o mid after) is e.read) e.open_) c.look_on.ensures;
+          (subst (λ (o : OpName). ReadsFor (collected.NotYet back) o mid after) is e.read) e.open_) c.await_end.ensures;
       op = e.turn.said.0 ∙ is;
     }
