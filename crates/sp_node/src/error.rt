@@ -2,6 +2,7 @@
 ghost use Rattle.std.specs.Prelude.{◌≡◌};
 ghost use Rattle.sp_node.specs.declared.error.WaitError.TheVariants as waits;
 ghost use Rattle.core_state.specs.Errors.{now_number, ctx_number, topic_number};
+
 use sp_base::SpError;
 use sp_socket::{BeginError, Cause, CtxError, NowError, TopicError};
 use std::error::Error;

@@ -7,8 +7,7 @@ use crate::tcp::TcpNet;
 use std::io;
 use std::io::ErrorKind;
 use std::net::Net;
-use std::rt::Clock;
-use std::rt::Runtime;
+use std::rt::{Clock, Runtime};
 
 /// A net, and the clock whose rests its sockets end. Fails where the machine's clock or its readiness does, or out of
 /// memory (`ErrorKind::OutOfMemory`).
