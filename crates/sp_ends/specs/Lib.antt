@@ -17,4 +17,5 @@ pub mod AddedEnds
 pub mod Freeing
 pub mod EndsTurns
 pub mod NameTurns
+pub mod WholeTurns
 pub mod LeftLinks

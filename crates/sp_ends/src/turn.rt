@@ -17,6 +17,7 @@ ghost use Rattle.sp_ends.specs.NameTurns.{TurnsCallers, LanesTurn, TakesCallers,
 ghost use Rattle.sp_ends.specs.NameSteps.{GoesOn, KeepsLinks, Accepting, AllBring};
 ghost use Rattle.sp_ends.specs.EndsTurns.{UngreetedGoOn, HaveTicked, StandAgain, TurnGoesOn, IsInTurn, AreToBeAsked, AskedStand, AreToBeDialed, DialedStand, CountsRise, WaitOn, WaitWith, GreetsInTurn, HasArrived, MeetsInTurn, AllTaken, FewInProgress, SameEnds, Serves, InTurnWith, HasWaitedSince, AreWaitingBehind, AsksNet, DialsAt, AreYoung, asked_after, asks_of, AsksAll, AsksEach, AsksDue, HasAskedOne, HasAskedTo, FitsIn};
 ghost use Rattle.sp_ends.specs.SocketSteps.{Quietly, IsDry, NoLane};
+ghost use Rattle.sp_ends.specs.WholeTurns.{TurnsEnds};
 ghost use Rattle.sp_socket.specs.Singles.{IsNow, IsSound};
 ghost use Rattle.sp_ends.specs.NewcomerSteps.{is_dry_for};
 
@@ -77,25 +78,7 @@ impl<L: Link> Ends<L> {
         requires sound { IsSound single.old }
         requires now { IsNow now single.old }
         requires dry { IsDry was_dry single.old }
-        ensures stands { StandAgain L.seen single.old single.new (N.seen net.old) (N.seen net.new) self.old.links self.new.links }
-        ensures sound { IsSound single.new }
-        ensures quietly { Quietly single.old single.new }
-        ensures dry { IsDry result.is_dry single.new }
-        ensures same { SameEnds self.old.links self.new.links }
-        ensures names { self.new.names.names ≡ self.old.names.names }
-        ensures turns { Turns now (N.seen net.old) (N.seen net.new) self.old.links.dialers self.new.links.dialers }
-        ensures waits { AreWaiting now self.new.links.dialers }
-        ensures taken { AllTaken single.old single.new }
-        ensures young { AreYoung now 0 self.new.links.newcomers }
-        ensures waited { AllByRecursion (HasWaitedSince L.seen self.old.links.newcomers (N.seen net.old).opened) self.new.links.newcomers }
-        ensures known { KnowsDialed (length self.old.links.listeners) (N.seen net.old) (N.seen net.new) self.new.links.dialers }
-        ensures listens { (N.seen net.new).listens ≡ (N.seen net.old).listens }
-        ensures asked { AsksAll now self.old.links (N.seen net.old) (N.seen net.new) }
-        ensures each { AsksEach now self.old.links (N.seen net.old) (N.seen net.new) }
-        ensures dues { AsksDue now self.old.links.dialers (N.seen net.old) (N.seen net.new) }
-        ensures few { FewInProgress self.old.links self.new.links }
-        ensures callers { TurnsCallers now single.old single.new self.old.names.callers self.new.names.callers }
-        ensures lanes { LanesTurn now self.old.links self.old.names self.new.names single.old single.new inproc.old inproc.new }
+        ensures { TurnsEnds L.seen now result.is_dry self.old self.new (N.seen net.old) (N.seen net.new) single.old single.new inproc.old inproc.new }
     {
         self.links
             .turn(&mut self.names, rt, net, inproc, single, now, was_dry)

@@ -20,7 +20,7 @@ fn turn<R: Wait + Abort + AllocGlobal>(pull: &mut Pulls<'_, R>)
 // It was received.
 fn is_hello(outcome: &Outcome) -> bool {
     match outcome {
-        Outcome::Received(m) => m.body() == b"hello",
+        Outcome::Received(m) => m.body() == b"hello".as_slice(),
         _ => false,
     }
 }
