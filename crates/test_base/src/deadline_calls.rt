@@ -135,7 +135,7 @@ fn calls_give_names_when_they_are_due(rt: HostRuntime) {
     let mut in_wheel = made(&rt, Deadlines::new(rt.alloc(), 64));
     let mut names = made(&rt, NameList::with_room(rt.alloc(), 256));
     run_due(&mut in_wheel, &calls, &mut names);
-    holds(&rt, names.as_slice() == [second, first]);
+    holds(&rt, names.as_slice() == [second, first].as_slice());
 }
 
 #[test]
