@@ -6,7 +6,7 @@ use cat_run::real::{RealPace, TcpNet};
 use sp_base::{Net, Pace};
 use std::cell::Cell;
 use std::io::Result as IoResult;
-use std::net::{IpAddr, Ipv4Addr, SocketAddr, TcpListener};
+use std::net::{IpAddr, Ipv4Addr, OpenListener, SocketAddr, TcpListener};
 use std::process::Abort;
 use std::rt::Clock;
 use std::time::Duration;
