@@ -3,7 +3,7 @@ ghost use Rattle.std.specs.Prelude.{◌≡◌, true};
 
 use super::*;
 use crate::checks::{holds, made, same};
-use sp_base::{Bytes, SpError};
+use sp_base::{Bytes, Framing, SpError};
 use sp_fakes::{LinkStep, MemLink, MemWire, WireStep};
 use sp_msg::{HeaderFull, Message, Room, Short, Wire, WireFlush, WireIn};
 use sp_tcp::{Prefix, Reader, TcpWire};
@@ -105,7 +105,7 @@ fn scripted(
     let link = Untold {
         link: MemLink::new(alloc, script, take, made(rt, Vec::from_slice(alloc, fails))),
     };
-    match TcpWire::new(alloc, link, rest, max) {
+    match TcpWire::new(alloc, link, rest, max, Framing::Tcp) {
         Ok(wire) => wire,
         Err(_) => panic!(rt; "no memory for a wire"),
     }
@@ -458,7 +458,7 @@ fn a_write_that_fails_ends_the_wire(rt: HostRuntime) {
 fn tube(rt: &impl Abort, alloc: Global, held: u64) -> TcpWire<Tube>
     ensures { result.wire.is_open ≡ true }
 {
-    match TcpWire::new(alloc, Tube::new(alloc, held), &[], 100) {
+    match TcpWire::new(alloc, Tube::new(alloc, held), &[], 100, Framing::Tcp) {
         Ok(wire) => wire,
         Err(_) => panic!(rt; "no memory for a wire"),
     }
