@@ -19,7 +19,7 @@ invariant_of-self g c =
     let t : TcpState = tcp_state w.framing (seen w.link) w.inlet w.outlet w.max w.spent.ticks w.marks in
     let l = seen c.write_from-returned.new.link in
     let o = c.write_from-returned.new.outlet in
-    let with_mark = subst (λ m. FlushedFrom m c.write_from-returned.result (outlet_in t) o t.link l) c.mark.ensures c.write_from-returned.ensures in
+    let with_mark = subst (λ m. FlushedFrom m c.write_from-returned.result (outlet_in t) o t.link l) c.mark-mark.ensures c.write_from-returned.ensures in
     let p = flushed c.write_from-returned.result t o l c.self.invariant with_mark in
     let q = subst (λ (k : WireMarks). Flushed c.write_from-returned.result t (tcp_state w.framing l w.inlet o w.max w.spent.ticks k)) (sym c.flushed.ensures) p in
     q.holds
@@ -31,7 +31,7 @@ returns g c =
     let t : TcpState = tcp_state w.framing (seen w.link) w.inlet w.outlet w.max w.spent.ticks w.marks in
     let l = seen c.write_from-returned.new.link in
     let o = c.write_from-returned.new.outlet in
-    let with_mark = subst (λ m. FlushedFrom m c.write_from-returned.result (outlet_in t) o t.link l) c.mark.ensures c.write_from-returned.ensures in
+    let with_mark = subst (λ m. FlushedFrom m c.write_from-returned.result (outlet_in t) o t.link l) c.mark-mark.ensures c.write_from-returned.ensures in
     let p = flushed c.write_from-returned.result t o l c.self.invariant with_mark in
     let q = subst (λ (k : WireMarks). Flushed c.write_from-returned.result t (tcp_state w.framing l w.inlet o w.max w.spent.ticks k)) (sym c.flushed.ensures) p in
     rw (← c.self.view_is) (record { after = q.after; cause = q.cause; tcp = q.tcp; framed = q.is_framed })
@@ -39,7 +39,7 @@ returns g c =
 pub write_from-returned-requires-clause-within : goal.write_from-returned-requires-clause-within
 write_from-returned-requires-clause-within g c =
     let w = c.self.inside in
-    subst (λ m. SentWithin m w.outlet.sent w.outlet.waiting) (sym c.mark.ensures) c.self.invariant.within
+    subst (λ m. SentWithin m w.outlet.sent w.outlet.waiting) (sym c.mark-mark.ensures) c.self.invariant.within
 
 pub write_from-returned-requires-clause-few : goal.write_from-returned-requires-clause-few
-write_from-returned-requires-clause-few g c = subst IsMark (sym c.mark.ensures) (mark_small c.self.inside.framing)
+write_from-returned-requires-clause-few g c = subst IsMark (sym c.mark-mark.ensures) (mark_small c.self.inside.framing)

@@ -14,7 +14,7 @@ invariant_of-self g c =
     let is_open : w.marks.is_open ≡ true = ap (λ (v : TcpView). v.wire.is_open) c.self.view_is ∙ c.requires in
     let l = seen c.pull_from-returned.new.link in
     let u = c.pull_from-returned.new.inlet in
-    let with_mark = subst (λ m. PulledFrom m t.max c.pull_from-returned.result t.unread u.unread t.link l) c.mark.ensures c.pull_from-returned.ensures in
+    let with_mark = subst (λ m. PulledFrom m t.max c.pull_from-returned.result t.unread u.unread t.link l) c.mark-mark.ensures c.pull_from-returned.ensures in
     let p = pulled c.pull_from-returned.result t u.unread l c.self.invariant is_open with_mark in
     let q = subst (λ (k : WireMarks). Pulled c.pull_from-returned.result t (tcp_state w.framing l u w.outlet w.max w.spent.ticks k)) (sym c.pulled.ensures) p in
     q.holds
@@ -27,7 +27,7 @@ returns g c =
     let is_open : w.marks.is_open ≡ true = ap (λ (v : TcpView). v.wire.is_open) c.self.view_is ∙ c.requires in
     let l = seen c.pull_from-returned.new.link in
     let u = c.pull_from-returned.new.inlet in
-    let with_mark = subst (λ m. PulledFrom m t.max c.pull_from-returned.result t.unread u.unread t.link l) c.mark.ensures c.pull_from-returned.ensures in
+    let with_mark = subst (λ m. PulledFrom m t.max c.pull_from-returned.result t.unread u.unread t.link l) c.mark-mark.ensures c.pull_from-returned.ensures in
     let p = pulled c.pull_from-returned.result t u.unread l c.self.invariant is_open with_mark in
     let q = subst (λ (k : WireMarks). Pulled c.pull_from-returned.result t (tcp_state w.framing l u w.outlet w.max w.spent.ticks k)) (sym c.pulled.ensures) p in
     rw (← c.self.view_is) (record { after = q.after; tcp = q.tcp; framed = q.is_framed })

@@ -15,7 +15,7 @@ invariant_of-self g c =
     let l = seen c.room_from-returned.new.link in
     let o = c.room_from-returned.new.outlet in
     let room = c.room_from-returned.result in
-    let with_mark = subst (λ m. RoomFrom m room (outlet_in t) o t.link l) c.mark.ensures c.room_from-returned.ensures in
+    let with_mark = subst (λ m. RoomFrom m room (outlet_in t) o t.link l) c.mark-mark.ensures c.room_from-returned.ensures in
     let p = roomed room t o l c.self.invariant with_mark in
     let q = subst (λ (k : WireMarks). Roomed room t (tcp_state w.framing l w.inlet o w.max w.spent.ticks k)) (sym c.roomed.ensures) p in
     q.holds
@@ -28,7 +28,7 @@ returns g c =
     let l = seen c.room_from-returned.new.link in
     let o = c.room_from-returned.new.outlet in
     let room = c.room_from-returned.result in
-    let with_mark = subst (λ m. RoomFrom m room (outlet_in t) o t.link l) c.mark.ensures c.room_from-returned.ensures in
+    let with_mark = subst (λ m. RoomFrom m room (outlet_in t) o t.link l) c.mark-mark.ensures c.room_from-returned.ensures in
     let p = roomed room t o l c.self.invariant with_mark in
     let q = subst (λ (k : WireMarks). Roomed room t (tcp_state w.framing l w.inlet o w.max w.spent.ticks k)) (sym c.roomed.ensures) p in
     rw (← c.self.view_is) (record { after = q.after; cause = q.cause; tcp = q.tcp; framed = q.is_framed })
@@ -36,7 +36,7 @@ returns g c =
 pub room_from-returned-requires-clause-within : goal.room_from-returned-requires-clause-within
 room_from-returned-requires-clause-within g c =
     let w = c.self.inside in
-    subst (λ m. SentWithin m w.outlet.sent w.outlet.waiting) (sym c.mark.ensures) c.self.invariant.within
+    subst (λ m. SentWithin m w.outlet.sent w.outlet.waiting) (sym c.mark-mark.ensures) c.self.invariant.within
 
 pub room_from-returned-requires-clause-few : goal.room_from-returned-requires-clause-few
-room_from-returned-requires-clause-few g c = subst IsMark (sym c.mark.ensures) (mark_small c.self.inside.framing)
+room_from-returned-requires-clause-few g c = subst IsMark (sym c.mark-mark.ensures) (mark_small c.self.inside.framing)
