@@ -38,14 +38,15 @@ case_is --surv -- --surveyor --surveyor0
 case_is --help -- --help
 case_is --dr -- --drill
 case_is --pull --li -- --listen
-case_is --listen '' -- tcp:// ws:// inproc://
+case_is --listen '' -- tcp:// ipc:// ws:// inproc://
 case_is --listen t -- tcp://
 case_is --listen tcp : -- //
 case_is --listen tcp : // -- //
 case_is --listen tcp : //127.0.0.1 --
 case_is --listen tcp ://127.0.0.1 : 55 --
-case_is --listen = -- tcp:// ws:// inproc://
+case_is --listen = -- tcp:// ipc:// ws:// inproc://
 case_is --listen = in -- inproc://
+case_is --listen = ip -- ipc://
 case_is --dial = t -- tcp://
 case_is --dial = tcp : -- //
 case_is --dial tcp : -- //

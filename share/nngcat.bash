@@ -50,7 +50,7 @@ _nngcat_value() {
     case $1 in
         --file) _nngcat_files ;;
         --dial | --listen)
-            _nngcat_among 'tcp:// ws:// inproc://'
+            _nngcat_among 'tcp:// ipc:// ws:// inproc://'
             compopt -o nospace 2>/dev/null ;;
     esac
 }

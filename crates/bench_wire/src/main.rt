@@ -6,7 +6,7 @@ ghost use Rattle.std.specs.Prelude.{◌≡◌, true, IfOk};
 ghost use Rattle.test_wire.specs.Untolds.{tube_view};
 
 use bench_base::timing::{now, since};
-use sp_base::NoMemory;
+use sp_base::{Framing, NoMemory};
 use sp_msg::{Message, Room, Wire, WireFlush, WireIn};
 use sp_tcp::TcpWire;
 use std::alloc::Global;
@@ -70,7 +70,7 @@ fn over(alloc: Global, link: Tube) -> Result<TcpWire<Tube>, NoMemory>
     requires { (tube_view link).is_open ≡ true }
     ensures { IfOk result (λ w. w.wire.is_open ≡ true) }
 {
-    match TcpWire::new(alloc, link, &[], 65_536) {
+    match TcpWire::new(alloc, link, &[], 65_536, Framing::Tcp) {
         Ok(wire) => Ok(wire),
         Err((e, link)) => {
             let _ = link;

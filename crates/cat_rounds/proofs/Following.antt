@@ -132,6 +132,7 @@ dials_more seen z start net e e' d addr n among is few s =
 abbrev pub listen_one : End → ℕ
 listen_one (ends.Listen (addrs.Tcp host port)) = 1
 listen_one (ends.Listen (addrs.Ws host port path)) = 1
+listen_one (ends.Listen (addrs.Ipc path)) = 1
 listen_one (ends.Listen (addrs.Inproc name)) = 0
 listen_one (ends.Dial addr) = 0
 
@@ -139,11 +140,13 @@ abbrev pub dial_one : End → ℕ
 dial_one (ends.Listen addr) = 0
 dial_one (ends.Dial (addrs.Tcp host port)) = 1
 dial_one (ends.Dial (addrs.Ws host port path)) = 1
+dial_one (ends.Dial (addrs.Ipc path)) = 1
 dial_one (ends.Dial (addrs.Inproc name)) = 0
 
 listen_counts : (x : End) (es : List End) → listens_of (x ∷ es) ≡ listen_one x + listens_of es
 listen_counts (ends.Listen (addrs.Tcp host port)) es = omega arith
 listen_counts (ends.Listen (addrs.Ws host port path)) es = omega arith
+listen_counts (ends.Listen (addrs.Ipc path)) es = omega arith
 listen_counts (ends.Listen (addrs.Inproc name)) es = omega arith
 listen_counts (ends.Dial addr) es = omega arith
 
@@ -151,6 +154,7 @@ dial_counts : (x : End) (es : List End) → dials_of (x ∷ es) ≡ dial_one x +
 dial_counts (ends.Listen addr) es = omega arith
 dial_counts (ends.Dial (addrs.Tcp host port)) es = omega arith
 dial_counts (ends.Dial (addrs.Ws host port path)) es = omega arith
+dial_counts (ends.Dial (addrs.Ipc path)) es = omega arith
 dial_counts (ends.Dial (addrs.Inproc name)) es = omega arith
 
 listens_next_at : (es : List End) (i : ℕ) (x : End) → i < length es → x ≡ get_or es i x → listens_of (take (suc i) es) ≡ listens_of (take i es) + listen_one x
@@ -181,6 +185,7 @@ dials_next es i x l e = let n : i + 1 ≡ suc i = omega arith in subst (λ (k : 
 abbrev pub name_one : End → List (List ℕ)
 name_one (ends.Listen (addrs.Tcp host port)) = []
 name_one (ends.Listen (addrs.Ws host port path)) = []
+name_one (ends.Listen (addrs.Ipc path)) = []
 name_one (ends.Listen (addrs.Inproc name)) = name ∷ []
 name_one (ends.Dial addr) = []
 
@@ -191,6 +196,7 @@ append_none (x ∷ xs) = ap (λ ys. x ∷ ys) (append_none xs)
 name_first : (x : End) (es : List End) → listen_names (x ∷ es) ≡ name_one x ++ listen_names es
 name_first (ends.Listen (addrs.Tcp host port)) es = refl
 name_first (ends.Listen (addrs.Ws host port path)) es = refl
+name_first (ends.Listen (addrs.Ipc path)) es = refl
 name_first (ends.Listen (addrs.Inproc name)) es = refl
 name_first (ends.Dial addr) es = refl
 
@@ -274,6 +280,9 @@ grows net net' reg reg' e e' (ends.Listen (addrs.Tcp host port)) (link, kept, sa
 grows net net' reg reg' e e' (ends.Listen (addrs.Ws host port path)) (link, kept, same) =
     let g = listened net net' e.links e'.links (addrs.Ws host port path) link in
     record { listens = g.0; dials = g.1; opened = g.2; faults = g.3; one = omega arith; names_are = same_names reg reg' same; apart = same_apart reg reg' same }
+grows net net' reg reg' e e' (ends.Listen (addrs.Ipc path)) (link, kept, same) =
+    let g = listened net net' e.links e'.links (addrs.Ipc path) link in
+    record { listens = g.0; dials = g.1; opened = g.2; faults = g.3; one = omega arith; names_are = same_names reg reg' same; apart = same_apart reg reg' same }
 grows net net' reg reg' e e' (ends.Listen (addrs.Inproc name)) (named, kept, same) =
     let g = same_links e.links e'.links kept in
     let m = same_net net net' same in
@@ -284,6 +293,10 @@ grows net net' reg reg' e e' (ends.Dial (addrs.Tcp host port)) ((link, kept), sa
     record { listens = g.0; dials = g.1; opened = m.0; faults = m.1; one = omega arith; names_are = same_names reg reg' same_reg; apart = same_apart reg reg' same_reg }
 grows net net' reg reg' e e' (ends.Dial (addrs.Ws host port path)) ((link, kept), same, same_reg) =
     let g = dialed e.links e'.links (addrs.Ws host port path) link in
+    let m = same_net net net' same in
+    record { listens = g.0; dials = g.1; opened = m.0; faults = m.1; one = omega arith; names_are = same_names reg reg' same_reg; apart = same_apart reg reg' same_reg }
+grows net net' reg reg' e e' (ends.Dial (addrs.Ipc path)) ((link, kept), same, same_reg) =
+    let g = dialed e.links e'.links (addrs.Ipc path) link in
     let m = same_net net net' same in
     record { listens = g.0; dials = g.1; opened = m.0; faults = m.1; one = omega arith; names_are = same_names reg reg' same_reg; apart = same_apart reg reg' same_reg }
 grows net net' reg reg' e e' (ends.Dial (addrs.Inproc name)) ((named, kept), same, same_reg) =
@@ -321,12 +334,16 @@ adds seen start net net' reg reg' s e e' (ends.Listen (addrs.Tcp host port)) emp
     listens_link seen start net net' s e.links e'.links (addrs.Tcp host port) empty refl of_plan link few links
 adds seen start net net' reg reg' s e e' (ends.Listen (addrs.Ws host port path)) empty of_plan (link, kept, same) few links =
     listens_link seen start net net' s e.links e'.links (addrs.Ws host port path) empty refl of_plan link few links
+adds seen start net net' reg reg' s e e' (ends.Listen (addrs.Ipc path)) empty of_plan (link, kept, same) few links =
+    listens_link seen start net net' s e.links e'.links (addrs.Ipc path) empty refl of_plan link few links
 adds seen start net net' reg reg' s e e' (ends.Listen (addrs.Inproc name)) empty of_plan (named, kept, same) few links =
     kept_ends seen start net net' s e.links e'.links false kept same links
 adds seen start net net' reg reg' s e e' (ends.Dial (addrs.Tcp host port)) empty of_plan ((link, kept), same, same_reg) few links =
     dials_link seen start net net' s e.links e'.links (addrs.Tcp host port) empty of_plan link same few links
 adds seen start net net' reg reg' s e e' (ends.Dial (addrs.Ws host port path)) empty of_plan ((link, kept), same, same_reg) few links =
     dials_link seen start net net' s e.links e'.links (addrs.Ws host port path) empty of_plan link same few links
+adds seen start net net' reg reg' s e e' (ends.Dial (addrs.Ipc path)) empty of_plan ((link, kept), same, same_reg) few links =
+    dials_link seen start net net' s e.links e'.links (addrs.Ipc path) empty of_plan link same few links
 adds seen start net net' reg reg' s e e' (ends.Dial (addrs.Inproc name)) empty of_plan ((named, kept), same, same_reg) few links =
     kept_ends seen start net net' s e.links e'.links false kept same links
 
@@ -391,12 +408,16 @@ refuses seen start net net' reg reg' s e e' p (ends.Listen (addrs.Tcp host port)
     refuses_link seen start net net' s e.links e'.links p (addrs.Tcp host port) why link run
 refuses seen start net net' reg reg' s e e' p (ends.Listen (addrs.Ws host port path)) why (link, kept, same) run =
     refuses_link seen start net net' s e.links e'.links p (addrs.Ws host port path) why link run
+refuses seen start net net' reg reg' s e e' p (ends.Listen (addrs.Ipc path)) why (link, kept, same) run =
+    refuses_link seen start net net' s e.links e'.links p (addrs.Ipc path) why link run
 refuses seen start net net' reg reg' s e e' p (ends.Listen (addrs.Inproc name)) why (named, kept, same) run =
     same_run seen start net net' s e.links e'.links p false kept same run
 refuses seen start net net' reg reg' s e e' p (ends.Dial (addrs.Tcp host port)) why ((link, kept), same, same_reg) run =
     same_run seen start net net' s e.links e'.links p false (refuses_dial e.links e'.links (addrs.Tcp host port) why link) same run
 refuses seen start net net' reg reg' s e e' p (ends.Dial (addrs.Ws host port path)) why ((link, kept), same, same_reg) run =
     same_run seen start net net' s e.links e'.links p false (refuses_dial e.links e'.links (addrs.Ws host port path) why link) same run
+refuses seen start net net' reg reg' s e e' p (ends.Dial (addrs.Ipc path)) why ((link, kept), same, same_reg) run =
+    same_run seen start net net' s e.links e'.links p false (refuses_dial e.links e'.links (addrs.Ipc path) why link) same run
 refuses seen start net net' reg reg' s e e' p (ends.Dial (addrs.Inproc name)) why ((named, kept), same, same_reg) run =
     same_run seen start net net' s e.links e'.links p false kept same run
 
@@ -462,12 +483,16 @@ refused net net' reg reg' e e' (ends.Listen (addrs.Tcp host port)) why (link, ke
     why_link net net' reg e.links e'.links (addrs.Tcp host port) (ends.Listen (addrs.Tcp host port)) why link
 refused net net' reg reg' e e' (ends.Listen (addrs.Ws host port path)) why (link, kept, same) =
     why_link net net' reg e.links e'.links (addrs.Ws host port path) (ends.Listen (addrs.Ws host port path)) why link
+refused net net' reg reg' e e' (ends.Listen (addrs.Ipc path)) why (link, kept, same) =
+    why_link net net' reg e.links e'.links (addrs.Ipc path) (ends.Listen (addrs.Ipc path)) why link
 refused net net' reg reg' e e' (ends.Listen (addrs.Inproc name)) why (named, kept, same) =
     why_name net net' reg reg' e.names e'.names name e.links.role why named same
 refused net net' reg reg' e e' (ends.Dial (addrs.Tcp host port)) why ((link, kept), same, same_reg) =
     why_dial net net' reg e.links e'.links (addrs.Tcp host port) (ends.Dial (addrs.Tcp host port)) why link same
 refused net net' reg reg' e e' (ends.Dial (addrs.Ws host port path)) why ((link, kept), same, same_reg) =
     why_dial net net' reg e.links e'.links (addrs.Ws host port path) (ends.Dial (addrs.Ws host port path)) why link same
+refused net net' reg reg' e e' (ends.Dial (addrs.Ipc path)) why ((link, kept), same, same_reg) =
+    why_dial net net' reg e.links e'.links (addrs.Ipc path) (ends.Dial (addrs.Ipc path)) why link same
 refused net net' reg reg' e e' (ends.Dial (addrs.Inproc name)) why ((named, kept), same, same_reg) =
     why_call net net' reg e.names e'.names name (ends.Dial (addrs.Inproc name)) why named same
 
@@ -504,6 +529,7 @@ twice (y ∷ es) (suc i) x name l e is h = go y h (λ h. twice es i x name (omeg
     go : (y : End) → IsIn name (listen_names (y ∷ take i es)) → (IsIn name (listen_names (take i es)) → ListensTwice es) → ListensTwice (y ∷ es)
     go (ends.Listen (addrs.Tcp host port)) h rest = behind (ends.Listen (addrs.Tcp host port)) es (rest h)
     go (ends.Listen (addrs.Ws host port path)) h rest = behind (ends.Listen (addrs.Ws host port path)) es (rest h)
+    go (ends.Listen (addrs.Ipc path)) h rest = behind (ends.Listen (addrs.Ipc path)) es (rest h)
     go (ends.Listen (addrs.Inproc other)) (inl same) rest =
         let p = parted es i x (omega (arith, l)) e in
         let here : x ≡ ends.Listen (addrs.Inproc other) = is ∙ ap (λ (n : List ℕ). ends.Listen (addrs.Inproc n)) (sym same) in

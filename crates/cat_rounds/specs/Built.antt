@@ -118,6 +118,7 @@ abbrev pub listen_names : List End → List (List ℕ)
 listen_names [] = []
 listen_names (ends.Listen (addrs.Tcp host port) ∷ es) = listen_names es
 listen_names (ends.Listen (addrs.Ws host port path) ∷ es) = listen_names es
+listen_names (ends.Listen (addrs.Ipc path) ∷ es) = listen_names es
 listen_names (ends.Listen (addrs.Inproc name) ∷ es) = name ∷ listen_names es
 listen_names (ends.Dial addr ∷ es) = listen_names es
 

@@ -43,6 +43,7 @@ third_of false b c h = cc
 one_host : (addr : Addr) → may_dial addr ≡ true → is_linked addr ≡ true → is_dialable addr ≡ true
 one_host (addrs.Tcp host port) h linked = and_first (is_one_host host) (not (port == 0)) h
 one_host (addrs.Ws host port path) h linked = and_first (is_one_host host) (not (port == 0)) h
+one_host (addrs.Ipc path) h linked = refl
 one_host (addrs.Inproc name) h linked = cc
 
 -- what an option with a value must be

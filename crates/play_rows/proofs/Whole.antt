@@ -9,6 +9,10 @@ use Rattle.std.proofs.Common.{◌≡◌, eqb, refl, ap, sym, ◌∙◌, subst, L
 use Rattle.std.proofs.lemmas.Bool.Decides.{nat_tests}
 use Rattle.sp_base.specs.SpTcp.{hello, frame, frames}
 use Rattle.sp_base.specs.Outside.{IsPrefix}
+use Rattle.sp_base.specs.SpStream.{scheme_under}
+use Rattle.sp_base.specs.Wires.{scheme_number}
+use Rattle.sp_base.specs.declared.framing.Framing.{Framing}
+use Rattle.sp_base.specs.declared.framing.Framing.TheVariants as framings
 use Rattle.sp_base.specs.declared.role.Role.TheVariants.{Pull}
 use Rattle.sp_history.specs.declared.entry.Why.{Why}
 use Rattle.sp_history.specs.declared.entry.Why.TheVariants as whys
@@ -50,16 +54,25 @@ one_pipe p place h = go (1 == p) refl h
     go true e h = grind (arith, nat_tests)
     go false e h = cc
 
-went_down : (why : Why) → down_for (past_of whole_record) 1 ≡ Some why → WentDownFor (socket Pull) 1048576 (past_of whole_record) 1 why whole_link
+went_down : (why : Why) → down_for (past_of whole_record) 1 ≡ Some why → WentDownFor framings.Tcp (socket Pull) 1048576 (past_of whole_record) 1 why whole_link
 went_down why h =
-    subst (λ (w : Why). WentDownFor (socket Pull) 1048576 (past_of whole_record) 1 w whole_link) (some_is whys.Closed why h) tt
+    subst (λ (w : Why). WentDownFor framings.Tcp (socket Pull) 1048576 (past_of whole_record) 1 w whole_link) (some_is whys.Closed why h) tt
 
-carries : Carries (socket Pull) (past_of whole_record) 1 whole_link
+carries : Carries framings.Tcp (socket Pull) (past_of whole_record) 1 whole_link
 unfolding frame frames
 carries = record { came = ([], refl); written = ([], refl) }
 
+-- the link is of TCP
+texts : (framing : Framing) → whole_link.scheme ≡ scheme_under framing → Carries framing (socket Pull) (past_of whole_record) 1 whole_link
+texts framings.Tcp under = carries
+texts framings.Ipc under = absurd (let no : 0 ≡ 3 = ap scheme_number under in omega (arith, no))
+
+reasons : (framing : Framing) → whole_link.scheme ≡ scheme_under framing → (why : Why) → down_for (past_of whole_record) 1 ≡ Some why → WentDownFor framing (socket Pull) 1048576 (past_of whole_record) 1 why whole_link
+reasons framings.Tcp under = went_down
+reasons framings.Ipc under = absurd (let no : 0 ≡ 3 = ap scheme_number under in omega (arith, no))
+
 link_of : IsLinkOf (socket Pull) 1048576 (past_of whole_record) 1 whole_link
-link_of = record { texts = λ s. carries; went_down = λ s. went_down }
+link_of = record { texts = texts; went_down = reasons }
 
 owes : (owed : List ℕ) → owed ≡ hello 81 → IsPrefix owed (hello 81)
 owes owed e = subst (λ (o : List ℕ). IsPrefix o (hello 81)) (sym e) ([], refl)

@@ -286,6 +286,33 @@ not_in-either First Second s prefix rest unlike whole absent h = elim h [
   | inr other ↦ unlike_whole Second s prefix rest unlike whole other
 ]
 
+-- the lists of the second set that begin as s does go on otherwise, and some list of the first begins so too
+pub record Parts {A : Type 0} (First Second : List A → Type 0) (s : List A) : Type 0 where
+  pub filled : Second [] → ⊥
+  pub begins : (x : A) (a b : List A) → Second (x ∷ a) → s ≡ x ∷ b → IsViable First (x ∷ []) × Unlike (λ t. Second (x ∷ t)) b
+
+part_prefix : {A : Type 0} (First Second : List A → Type 0) (s prefix rest : List A) → Parts First Second s → IsCut First s prefix rest → (x : A) (more tail : List A) → rest ≡ x ∷ more → Second ((prefix ++ x ∷ []) ++ tail) → ⊥
+part_prefix First Second s [] rest parts cut x more tail e h = let begins = parts.begins x tail more h (cut.whole ∙ e) in cut.stuck x more e begins.0
+part_prefix First Second s (y ∷ prefix) rest parts cut x more tail e h =
+    let begins = parts.begins y ((prefix ++ x ∷ []) ++ tail) (prefix ++ rest) h cut.whole in
+    unlike_prefix (λ t. Second (y ∷ t)) (prefix ++ rest) prefix rest begins.1 refl x more tail e h
+
+part_whole : {A : Type 0} (First Second : List A → Type 0) (s prefix rest : List A) → Parts First Second s → s ≡ prefix ++ rest → Second prefix → ⊥
+part_whole First Second s [] rest parts whole h = parts.filled h
+part_whole First Second s (y ∷ prefix) rest parts whole h =
+    let begins = parts.begins y prefix (prefix ++ rest) h whole in
+    unlike_whole (λ t. Second (y ∷ t)) (prefix ++ rest) prefix rest begins.1 refl h
+
+cut-part : {A : Type 0} (First Second : List A → Type 0) (s prefix rest : List A) → Parts First Second s → IsCut First s prefix rest → IsCut (Either First Second) s prefix rest
+cut-part First Second s prefix rest parts cut = record {
+  whole = cut.whole;
+  viable = (cut.viable.0, inl cut.viable.1);
+  stuck = λ x more e h. elim h.1 [
+    | inl one ↦ cut.stuck x more e (h.0, one)
+    | inr other ↦ part_prefix First Second s prefix rest parts cut x more h.0 e other
+  ];
+}
+
 -- ---- the same with whether the prefix is in the set
 
 pub same_one : {A : Type 0} (P Q : List A → Type 0) → ((t : List A) → P t → Q t) → ((t : List A) → Q t → P t) → (s prefix rest : List A) → IsCutAtOne P s prefix rest → IsCutAtOne Q s prefix rest
@@ -322,6 +349,16 @@ either_short First Second s rest unlike h = record {
   prefix = h.prefix;
   no_list = not_in-either First Second s h.prefix rest unlike h.cut.whole h.no_list;
   cut = cut-either First Second s h.prefix rest unlike h.cut;
+}
+
+pub part_one : {A : Type 0} (First Second : List A → Type 0) (s prefix rest : List A) → Parts First Second s → IsCutAtOne First s prefix rest → IsCutAtOne (Either First Second) s prefix rest
+part_one First Second s prefix rest parts h = record { one = inl h.one; cut = cut-part First Second s prefix rest parts h.cut }
+
+pub part_short : {A : Type 0} (First Second : List A → Type 0) (s rest : List A) → Parts First Second s → IsCutShort First s rest → IsCutShort (Either First Second) s rest
+part_short First Second s rest parts h = record {
+  prefix = h.prefix;
+  no_list = λ either. elim either [ inl one ↦ h.no_list one | inr other ↦ part_whole First Second s h.prefix rest parts h.cut.whole other ];
+  cut = cut-part First Second s h.prefix rest parts h.cut;
 }
 
 -- nothing is left after a list of the set, or the whole is not in the set

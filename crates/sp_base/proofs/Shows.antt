@@ -21,15 +21,15 @@ unfolding frame
 length-frame b = omega arith
 
 -- the size at the front of a frame
-size-frame : (b rest : List ℕ) → length b < 2 ^ 64 → size_of (frame b ++ rest) ≡ length b
+pub size-frame : (b rest : List ℕ) → length b < 2 ^ 64 → size_of (frame b ++ rest) ≡ length b
 unfolding frame
 size-frame b rest lt = from_be_bytes-to_be_bytes_8 (length b) lt
 
-drop-frame : (b rest : List ℕ) → drop 8 (frame b ++ rest) ≡ b ++ rest
+pub drop-frame : (b rest : List ℕ) → drop 8 (frame b ++ rest) ≡ b ++ rest
 unfolding frame
 drop-frame b rest = refl
 
-begins-frame : (max : ℕ) (b rest : List ℕ) → max < 2 ^ 64 → length b ≤ max → begins max (frame b ++ rest) ≡ true
+pub begins-frame : (max : ℕ) (b rest : List ℕ) → max < 2 ^ 64 → length b ≤ max → begins max (frame b ++ rest) ≡ true
 begins-frame max b rest lt fit =
     let size : size_of (frame b ++ rest) ≡ length b = size-frame b rest (omega arith) in
     let long : length (frame b ++ rest) ≡ 8 + length b + length rest = omega (arith, length-append (frame b) rest, length-frame b) in
@@ -66,11 +66,11 @@ bodies_in-frames max (suc k) (b ∷ bs) rest lt fit long =
     let regroup : (frame b ++ frames bs) ++ rest ≡ frame b ++ (frames bs ++ rest) = append_assoc (frame b) (frames bs) rest in
     (more.0, ap (bodies_in max (suc k)) regroup ∙ bodies_in-frame max k b (frames bs ++ rest) lt fit.0 ∙ ap (λ t. b ∷ t) more.1, omega (arith, more.2))
 
-starts-append : (prefix rest : List ℕ) → starts prefix (prefix ++ rest) ≡ true
+pub starts-append : (prefix rest : List ℕ) → starts prefix (prefix ++ rest) ≡ true
 starts-append [] rest = refl
 starts-append (b ∷ prefix) rest = and_from _ _ (eq-eqb b b refl) (starts-append prefix rest)
 
-starts-true : (prefix s : List ℕ) → starts prefix s ≡ true → IsPrefix prefix s
+pub starts-true : (prefix s : List ℕ) → starts prefix s ≡ true → IsPrefix prefix s
 starts-true [] s e = (s, refl)
 starts-true (b ∷ prefix) [] e = absurd cc
 starts-true (b ∷ prefix) (x ∷ s) e =
@@ -91,7 +91,7 @@ shows-prefix role max bs rest lt fit =
 
 -- ---- what is found is there
 
-begins-parts : (max : ℕ) (s : List ℕ) → begins max s ≡ true → (8 ≤ length s) × (size_of s ≤ max) × (8 + size_of s ≤ length s)
+pub begins-parts : (max : ℕ) (s : List ℕ) → begins max s ≡ true → (8 ≤ length s) × (size_of s ≤ max) × (8 + size_of s ≤ length s)
 begins-parts max s e =
     let p = and_parts _ _ e in
     let q = and_parts _ _ p.1 in

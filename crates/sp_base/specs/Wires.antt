@@ -7,6 +7,7 @@ abbrev pub scheme_number : Scheme → ℕ
 scheme_number schemes.Tcp = 0
 scheme_number schemes.Ws = 1
 scheme_number schemes.Inproc = 2
+scheme_number schemes.Ipc = 3
 
 -- what a wire runs over: a link's place, the most bytes of a body, the number of the link's scheme, how often the link
 -- had had nothing to read or had taken nothing when the wire was made, and where told the role numbers of the own

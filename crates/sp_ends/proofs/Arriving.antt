@@ -24,16 +24,19 @@ use Rattle.sp_ends.proofs.NewcomingAsks.{at_of}
 known_served : (o : Origins) (addr : Addr) → IsAmong addr o.listens → IsKnown o (serving addr)
 known_served o (addrs.Tcp host port) x = tt
 known_served o (addrs.Ws host port path) x = (addrs.Ws host port path, x, refl)
+known_served o (addrs.Ipc path) x = tt
 known_served o (addrs.Inproc name) x = tt
 
 can_serve : (addr : Addr) → CanBegin (serving addr)
 can_serve (addrs.Tcp host port) = tt
 can_serve (addrs.Ws host port path) = tt
+can_serve (addrs.Ipc path) = tt
 can_serve (addrs.Inproc name) = tt
 
 scheme_served : (addr : Addr) → is_linked addr ≡ true → scheme_for (serving addr) ≡ scheme_of addr
 scheme_served (addrs.Tcp host port) x = refl
 scheme_served (addrs.Ws host port path) x = refl
+scheme_served (addrs.Ipc path) x = refl
 scheme_served (addrs.Inproc name) x = cc
 
 pub arrives_served : {L : Type 0} (o : Origins) (ends : LinkEndsView L) (i : ℕ) (l : Listener) (link : LinkView) (way : Result Way NoMemory) (a b : NetView) → AreOfRun o ends → slice_get ends.listeners i ≡ Some l → IfOk way (λ w. w ≡ serving l.addr) → IsListener a l → IsHandedOut link (get a.listens l.at) a b → Arrives o link way a b
@@ -51,17 +54,20 @@ arrives_served o ends i l link way a b run at is listens handed =
 known_asked : (o : Origins) (addr : Addr) (dice n : ℕ) → dice ≡ o.dice → IsAmong addr o.dials → IsKnown o (asking addr (dice + n))
 known_asked o (addrs.Tcp host port) dice n e x = tt
 known_asked o (addrs.Ws host port path) dice n e x = (x, (n, ap (λ (k : ℕ). k + n) e))
+known_asked o (addrs.Ipc path) dice n e x = tt
 known_asked o (addrs.Inproc name) dice n e x = tt
 
 can_ask : (addr : Addr) (start : ℕ) → is_dialable addr ≡ true → CanBegin (asking addr start)
 can_ask (addrs.Tcp host port) start x = tt
 can_ask (addrs.Ws (hosts.V4 a b c d) port path) start x = tt
 can_ask (addrs.Ws hosts.Any port path) start x = cc
+can_ask (addrs.Ipc path) start x = tt
 can_ask (addrs.Inproc name) start x = tt
 
 scheme_asked : (addr : Addr) (start : ℕ) → is_dialable addr ≡ true → scheme_for (asking addr start) ≡ scheme_of addr
 scheme_asked (addrs.Tcp host port) start x = refl
 scheme_asked (addrs.Ws host port path) start x = refl
+scheme_asked (addrs.Ipc path) start x = refl
 scheme_asked (addrs.Inproc name) start x = cc
 
 pub arrives_asked : {L : Type 0} (o : Origins) (ends : LinkEndsView L) (i n : ℕ) (d : Dialer) (link : LinkView) (way : Result Way NoMemory) (a b : NetView) → AreOfRun o ends → slice_get ends.dialers i ≡ Some d → IfOk way (λ w. w ≡ asking d.addr (ends.dice + n)) → is_dialable d.addr ≡ true → IsHandedOut link (Some (scheme_of d.addr)) a b → Arrives o link way a b

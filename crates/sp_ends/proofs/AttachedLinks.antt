@@ -7,6 +7,9 @@ use Rattle.sp_base.specs.SpTcp.{hello}
 use Rattle.sp_base.specs.Views.{LinkView, NetView}
 use Rattle.sp_base.specs.Roles.{role_number, role_peer}
 use Rattle.sp_base.specs.Wires.{WireView, OverLink, numbers_of, scheme_number}
+use Rattle.sp_base.specs.SpStream.{scheme_under}
+use Rattle.sp_base.specs.declared.framing.Framing.{Framing}
+use Rattle.sp_base.specs.declared.framing.Framing.TheVariants as framings
 use Rattle.sp_base.specs.declared.role.Role.{Role}
 use Rattle.sp_base.specs.declared.role.Role.TheVariants.{Pair0, Pub, Sub, Req, Rep, Push, Pull, Surveyor, Respondent, Bus}
 use Rattle.sp_base.specs.declared.addr.Scheme.{Scheme}
@@ -84,6 +87,15 @@ none_is : (o : Option (List ℕ)) → IfSome (none_of o) (λ texts. texts ≡ []
 none_is None = tt
 none_is (Some s) = refl
 
+-- the numbers of a wire over TCP or IPC
+pub name_under : (f : Framing) → scheme_number (scheme_under f) ≡ name_number (scheme_under f)
+name_under framings.Tcp = refl
+name_under framings.Ipc = refl
+
+numbers_under : (o : Origins) (z : Setting) (f : Framing) (own peer : Option ℕ) → IsNoneOr (role_number z.role) own → IsNoneOr (peer_number z.role) peer → AreNumbers o z (scheme_under f) own peer
+numbers_under o z framings.Tcp own peer a b = (a, b)
+numbers_under o z framings.Ipc own peer a b = (a, b)
+
 -- what a new wire over a link of the run shows
 pub record IsNewShown (o : Origins) (z : Setting) (link : LinkView) (w : WireView) : Type 0 where
   pub own : Option ℕ
@@ -121,23 +133,23 @@ module _ {L : Type 0} (seen : L → LinkView) (o : Origins) (z : Setting) (n : O
   new_shows w new = go n.way refl w new
     where
       go : (way : Way) → n.way ≡ way → (w : EndWire L) → IsNewBy (side_of way) max_body (behind n.used n.came) n.role way link w → IsNewShown o z link (shown w)
-      go ways.Greeting is (wires.Ws v) x = absurd x
-      go ways.Greeting is (wires.Lane v) x = absurd x
-      go ways.Greeting is (wires.Tcp v) x =
-          let told = hellos seen n opened opened.used opened.used_is is in
-          let at_tcp : link.scheme ≡ schemes.Tcp = run.scheme ∙ ap scheme_for is in
+      go (ways.Greeting f) is (wires.Ws v) x = absurd x
+      go (ways.Greeting f) is (wires.Lane v) x = absurd x
+      go (ways.Greeting f) is (wires.Tcp v) x =
+          let told = hellos seen n opened f opened.used opened.used_is is in
+          let at : link.scheme ≡ scheme_under f = run.scheme ∙ ap scheme_for is in
           record {
             own = told_number link.written;
             peer = told_number link.came;
             came = none_of link.came;
             outs = none_of link.written;
-            is = x.wire ∙ ap (λ (k : ℕ). wire_view (OverLink link.place max_body k (link.idles + link.stalls) (told_number link.written) (told_number link.came)) (none_of link.came) (none_of link.written) 0 false fresh_marks) (ap scheme_number at_tcp ∙ ap name_number (sym at_tcp));
+            is = x.wire ∙ ap (λ (k : ℕ). wire_view (OverLink link.place max_body k (link.idles + link.stalls) (told_number link.written) (told_number link.came)) (none_of link.came) (none_of link.written) 0 false fresh_marks) (ap scheme_number at ∙ name_under f ∙ ap name_number (sym at));
             none_came = none_is link.came;
             none_outs = none_is link.written;
-            are = subst (λ (s : Scheme). AreNumbers o z s (told_number link.written) (told_number link.came)) (sym at_tcp) (
-              subst (λ (r : Role). IsNoneOr (role_number r) (told_number link.written)) run.role (told_alone (role_number n.role) link.written (small_role n.role) told.0),
-              subst (λ (r : Role). IsNoneOr (peer_number r) (told_number link.came)) run.role (told_is (peer_number n.role) (drop opened.used n.came) link.came (small_role (role_peer n.role)) told.1),
-            );
+            are = subst (λ (s : Scheme). AreNumbers o z s (told_number link.written) (told_number link.came)) (sym at)
+                (numbers_under o z f (told_number link.written) (told_number link.came)
+                (subst (λ (r : Role). IsNoneOr (role_number r) (told_number link.written)) run.role (told_alone (role_number n.role) link.written (small_role n.role) told.0))
+                (subst (λ (r : Role). IsNoneOr (peer_number r) (told_number link.came)) run.role (told_is (peer_number n.role) (drop opened.used n.came) link.came (small_role (role_peer n.role)) told.1)));
           }
       go (ways.Serves path) is w x = over_web (ways.Serves path) is refl _ w x
       go (ways.Asks addr start) is w x = over_web (ways.Asks addr start) is refl _ w x
@@ -152,9 +164,9 @@ module _ {L : Type 0} (seen : L → LinkView) (o : Origins) (z : Setting) (n : O
       web way side (wires.Ws v) x = ap Some x.0.link_is
 
       go : (way : Way) (w : EndWire L) → IsNewBy (side_of way) max_body (behind n.used n.came) n.role way link w → link_of w ≡ Some link
-      go ways.Greeting (wires.Ws v) x = absurd x
-      go ways.Greeting (wires.Lane v) x = absurd x
-      go ways.Greeting (wires.Tcp v) x = ap Some x.link_is
+      go (ways.Greeting f) (wires.Ws v) x = absurd x
+      go (ways.Greeting f) (wires.Lane v) x = absurd x
+      go (ways.Greeting f) (wires.Tcp v) x = ap Some x.link_is
       go (ways.Serves path) w x = web (ways.Serves path) _ w x
       go (ways.Asks addr start) w x = web (ways.Asks addr start) _ w x
 

@@ -6,7 +6,7 @@ use Rattle.std.specs.FinMap.{FinMap, get}
 use Rattle.std.specs.Ordering.{nat_cmp}
 use Rattle.turn_lock.specs.declared.turn.Turn.{Turn}
 use Rattle.sp_base.specs.Outside.{Told}
-use Rattle.sp_base.specs.SpTcp.{text}
+use Rattle.sp_base.specs.SpStream.{stream_text}
 use Rattle.sp_base.specs.Roles.{role_number}
 use Rattle.sp_base.specs.Views.{LinkView, NetView}
 use Rattle.sp_links.specs.declared.wire.EndWire.{EndWire}
@@ -246,11 +246,11 @@ module _ {L : Type 0} (seen : L → LinkView) (z : Setting) (start : Beginning) 
   }
 
   whole : ClosedCleared past → AreWhole z (record net { back = back }) past
-  whole cleared p place link down e n lt there tcp =
+  whole cleared p place link down e n lt there framing under =
       let c = carried_at p place e n in
       let all : Some c.0 ≡ Some link = sym c.1 ∙ there in
       let same : c.0 ≡ link = some_link c.0 link all in
-      subst (λ (l : LinkView). Told l.written (λ written. written ≡ text (role_number z.role) (outs past p))) same (c.2.whole (ap (λ (l : LinkView). l.scheme) same ∙ tcp) (cleared p down))
+      subst (λ (l : LinkView). Told l.written (λ written. written ≡ stream_text framing (role_number z.role) (outs past p))) same (c.2.whole framing (ap (λ (l : LinkView). l.scheme) same ∙ under) (cleared p down))
     where
       some_link : (a b : LinkView) → Some a ≡ Some b → a ≡ b
       some_link a b q = cc

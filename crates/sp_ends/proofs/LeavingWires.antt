@@ -4,8 +4,11 @@ use Rattle.std.proofs.lemmas.Bool.{cases_lt}
 use Rattle.std.specs.Prelude.{⊤, ◌==◌, ◌^◌, ◌-◌, ◌⊎◌, IfSome, if◌then◌else◌}
 use Rattle.turn_lock.specs.declared.turn.Turn.{Turn}
 use Rattle.sp_base.specs.Outside.{Told, IsPrefix}
-use Rattle.sp_base.specs.SpTcp.{hello, frames as frames_text, text, shows, IsOversize}
-use Rattle.sp_base.proofs.Shows.{frames-append, frames-cons}
+use Rattle.sp_base.specs.SpTcp.{hello}
+use Rattle.sp_base.specs.SpStream.{framing_for, scheme_under, stream_frames, stream_text, stream_shows, IsStreamBad}
+use Rattle.sp_base.specs.declared.framing.Framing.{Framing}
+use Rattle.sp_base.specs.declared.framing.Framing.TheVariants as framings
+use Rattle.sp_base.proofs.StreamShows.{stream-cons, stream-append, framing-under}
 use Rattle.sp_base.specs.Roles.{role_number}
 use Rattle.sp_base.specs.Views.{LinkView}
 use Rattle.sp_base.specs.Wires.{WireView, WireName, OverLink, scheme_number, number_of, numbers_of}
@@ -36,7 +39,7 @@ use Rattle.sp_links.specs.EndWires.{shown, link_of, Stands, IsOverLanes}
 use Rattle.sp_links.specs.declared.wire.EndWire.{EndWire}
 use Rattle.sp_links.specs.declared.wire.EndWire.TheVariants as wires
 use Rattle.sp_links.proofs.WayNumbers.{one_way}
-use Rattle.sp_ends.specs.LinkRecords.{lane_place, place_of, greeting, Each, WentDownFor, IsDrained}
+use Rattle.sp_ends.specs.LinkRecords.{lane_place, place_of, greeting, Each, Carries, WentDownFor, IsDrained}
 use Rattle.sp_ends.specs.LinkRecords.{max_body}
 use Rattle.sp_ends.specs.LinkCounts.{greeting_ticks, ticks_where, idle_turns, IsRead}
 use Rattle.sp_ends.specs.RunLinks.{IsNoneOr, AreNumbers, name_number, IsNameOver, IsLaneName, IsNamed, HasCarried, IsAskedIn}
@@ -93,6 +96,13 @@ same_scheme schemes.Ws schemes.Inproc e = absurd (omega (arith, e))
 same_scheme schemes.Inproc schemes.Tcp e = absurd (omega (arith, e))
 same_scheme schemes.Inproc schemes.Ws e = absurd (omega (arith, e))
 same_scheme schemes.Inproc schemes.Inproc e = refl
+same_scheme schemes.Tcp schemes.Ipc e = absurd (omega (arith, e))
+same_scheme schemes.Ws schemes.Ipc e = absurd (omega (arith, e))
+same_scheme schemes.Inproc schemes.Ipc e = absurd (omega (arith, e))
+same_scheme schemes.Ipc schemes.Tcp e = absurd (omega (arith, e))
+same_scheme schemes.Ipc schemes.Ws e = absurd (omega (arith, e))
+same_scheme schemes.Ipc schemes.Inproc e = absurd (omega (arith, e))
+same_scheme schemes.Ipc schemes.Ipc e = refl
 
 -- the pipe came up with this name, over this link
 pub record NamedAt (o : Origins) (z : Setting) (past : List Entry) (p place : ℕ) : Type 0 where
@@ -153,30 +163,30 @@ number_told : (n : ℕ) (o : Option (List ℕ)) → IsNoneOr n (told_number o) �
 number_told n None h = tt
 number_told n (Some s) h = h
 
-hello_prefix : (role : ℕ) (bodies : List (List ℕ)) (s rest : List ℕ) → s ≡ text role bodies ++ rest → IsPrefix (hello role) s
-hello_prefix role bodies s rest e = (frames_text bodies ++ rest, e ∙ append_assoc (hello role) (frames_text bodies) rest)
+hello_prefix : (f : Framing) (role : ℕ) (bodies : List (List ℕ)) (s rest : List ℕ) → s ≡ stream_text f role bodies ++ rest → IsPrefix (hello role) s
+hello_prefix f role bodies s rest e = (stream_frames f bodies ++ rest, e ∙ append_assoc (hello role) (stream_frames f bodies) rest)
 
-part_prefix : (part : List ℕ) (waiting : List (List ℕ)) → CutShort part waiting → IsPrefix part (frames_text waiting)
-part_prefix part [] cut = (frames_text [], ap (λ (l : List ℕ). l ++ frames_text []) (sym cut))
-part_prefix part (t ∷ rest) cut = (cut.0.0 ++ frames_text rest, frames-cons t rest ∙ ap (λ (l : List ℕ). l ++ frames_text rest) cut.0.1 ∙ append_assoc part cut.0.0 (frames_text rest))
+part_prefix : (f : Framing) (part : List ℕ) (waiting : List (List ℕ)) → CutShort f part waiting → IsPrefix part (stream_frames f waiting)
+part_prefix f part [] cut = (stream_frames f [], ap (λ (l : List ℕ). l ++ stream_frames f []) (sym cut))
+part_prefix f part (t ∷ rest) cut = (cut.0.0 ++ stream_frames f rest, stream-cons f t rest ∙ ap (λ (l : List ℕ). l ++ stream_frames f rest) cut.0.1 ∙ append_assoc part cut.0.0 (stream_frames f rest))
 
-written_prefix : (role : ℕ) (whole waiting : List (List ℕ)) (part s : List ℕ) → s ≡ text role whole ++ part → CutShort part waiting → IsPrefix s (text role (whole ++ waiting))
-written_prefix role whole waiting part s is cut =
-    let f = part_prefix part waiting cut in (
-      f.0,
-      ap (λ (l : List ℕ). hello role ++ l) (frames-append whole waiting ∙ ap (λ (l : List ℕ). frames_text whole ++ l) f.1)
-          ∙ sym (append_assoc (hello role) (frames_text whole) (part ++ f.0)) ∙ sym (append_assoc (text role whole) part f.0) ∙ ap (λ (l : List ℕ). l ++ f.0) (sym is),
+written_prefix : (f : Framing) (role : ℕ) (whole waiting : List (List ℕ)) (part s : List ℕ) → s ≡ stream_text f role whole ++ part → CutShort f part waiting → IsPrefix s (stream_text f role (whole ++ waiting))
+written_prefix f role whole waiting part s is cut =
+    let p = part_prefix f part waiting cut in (
+      p.0,
+      ap (λ (l : List ℕ). hello role ++ l) (stream-append f whole waiting ∙ ap (λ (l : List ℕ). stream_frames f whole ++ l) p.1)
+          ∙ sym (append_assoc (hello role) (stream_frames f whole) (part ++ p.0)) ∙ sym (append_assoc (stream_text f role whole) part p.0) ∙ ap (λ (l : List ℕ). l ++ p.0) (sym is),
     )
 
 none_waits : (waiting : List (List ℕ)) → length waiting ≡ 0 → waiting ≡ []
 none_waits [] e = refl
 none_waits (t ∷ rest) e = absurd (omega arith)
 
-written_whole : (role : ℕ) (whole waiting : List (List ℕ)) (part s : List ℕ) → s ≡ text role whole ++ part → CutShort part waiting → length waiting ≡ 0 → s ≡ text role (whole ++ waiting)
-written_whole role whole waiting part s is cut none =
+written_whole : (f : Framing) (role : ℕ) (whole waiting : List (List ℕ)) (part s : List ℕ) → s ≡ stream_text f role whole ++ part → CutShort f part waiting → length waiting ≡ 0 → s ≡ stream_text f role (whole ++ waiting)
+written_whole f role whole waiting part s is cut none =
     let empty = none_waits waiting none in
-    let part_is : part ≡ [] = subst (λ (w : List (List ℕ)). CutShort part w) empty cut in
-    is ∙ ap (λ (l : List ℕ). text role whole ++ l) part_is ∙ append-nil (text role whole) ∙ ap (text role) (sym (append-nil whole) ∙ ap (λ (w : List (List ℕ)). whole ++ w) (sym empty))
+    let part_is : part ≡ [] = subst (λ (w : List (List ℕ)). CutShort f part w) empty cut in
+    is ∙ ap (λ (l : List ℕ). stream_text f role whole ++ l) part_is ∙ append-nil (stream_text f role whole) ∙ ap (stream_text f role) (sym (append-nil whole) ∙ ap (λ (w : List (List ℕ)). whole ++ w) (sym empty))
 
 few_ticks : (test : List Entry → Bool) (past : List Entry) → ticks_where test past ≤ length (ticks past)
 few_ticks test [] = omega arith
@@ -192,11 +202,11 @@ few_ticks test (x ∷ past) = few_ticks test past
 some_is : (a b : List ℕ) → Some a ≡ Some b → a ≡ b
 some_is a b h = cc
 
--- what the name says about the link of a wire over TCP
+-- what the name says about the link of a wire over TCP or IPC
 record OverIt (z : Setting) (place spent : ℕ) (v : TcpView) : Type 0 where
   place_is : v.link.place ≡ place
   max_is : v.max ≡ max_body
-  scheme : v.link.scheme ≡ schemes.Tcp
+  scheme : v.link.scheme ≡ scheme_under v.framing
   waited : spent ≤ v.link.idles + v.link.stalls
   own : Told v.link.written (λ s. number_in s ≡ role_number z.role)
   peer : Told v.link.came (λ s. number_in s ≡ peer_number z.role)
@@ -205,51 +215,61 @@ not_opened : (s : Scheme) → scheme_number s ≡ name_number schemes.Ws → ⊥
 not_opened schemes.Tcp e = omega (arith, e)
 not_opened schemes.Ws e = omega (arith, e)
 not_opened schemes.Inproc e = omega (arith, e)
+not_opened schemes.Ipc e = omega (arith, e)
 
-over_it : (o : Origins) (z : Setting) (place spent : ℕ) (scheme : Scheme) (own peer : Option ℕ) (v : TcpView) → AreNumbers o z scheme own peer → numbers_of v.wire.name ≡ numbers_of (OverLink place max_body (name_number scheme) spent own peer) → Framed v → OverIt z place spent v
-over_it o z place spent schemes.Inproc own peer v are e framed = absurd are
-over_it o z place spent schemes.Ws own peer v are e framed =
-    let all : numbers_of (wire_name v.link v.max framed.spent) ≡ numbers_of (OverLink place max_body (name_number schemes.Ws) spent own peer) = ap numbers_of (sym framed.name) ∙ e in
-    absurd (not_opened v.link.scheme (heads _ _ _ _ (tails _ _ _ _ (tails _ _ _ _ (tails _ _ _ _ all)))))
-over_it o z place spent schemes.Tcp own peer v are shown framed =
-    let e : numbers_of (wire_name v.link v.max framed.spent) ≡ numbers_of (OverLink place max_body (name_number schemes.Tcp) spent own peer) = ap numbers_of (sym framed.name) ∙ shown in
+-- a link of this scheme is framed so
+framed_under : (v : TcpView) (f : Framing) → v.framing ≡ framing_for v.link.scheme → v.link.scheme ≡ scheme_under f → v.framing ≡ f
+framed_under v f by under = by ∙ ap framing_for under ∙ framing-under f
+
+over_at : (z : Setting) (place spent : ℕ) (f : Framing) (own peer : Option ℕ) (v : TcpView) → IsNoneOr (role_number z.role) own → IsNoneOr (peer_number z.role) peer → numbers_of v.wire.name ≡ numbers_of (OverLink place max_body (scheme_number (scheme_under f)) spent own peer) → Framed v → OverIt z place spent v
+over_at z place spent f own peer v is_own is_peer shown framed =
+    let e : numbers_of (wire_name v.link v.max framed.spent) ≡ numbers_of (OverLink place max_body (scheme_number (scheme_under f)) spent own peer) = ap numbers_of (sym framed.name) ∙ shown in
     let e1 = tails _ _ _ _ e in
     let e2 = tails _ _ _ _ e1 in
     let e3 = tails _ _ _ _ e2 in
     let e4 = tails _ _ _ _ e3 in
     let spent_is : framed.spent ≡ spent = heads _ _ _ _ e4 in
     let ends = same_numbers (told_number v.link.written) (told_number v.link.came) own peer (tails _ _ _ _ e4) in
+    let under : v.link.scheme ≡ scheme_under f = same_scheme v.link.scheme (scheme_under f) (heads _ _ _ _ e3) in
     record {
       place_is = heads _ _ _ _ e1;
       max_is = heads _ _ _ _ e2;
-      scheme = same_scheme v.link.scheme schemes.Tcp (heads _ _ _ _ e3);
+      scheme = under ∙ ap scheme_under (sym (framed_under v f framed.framed_by under));
       waited = omega (arith, spent_is, framed.waited);
-      own = number_told (role_number z.role) v.link.written (subst (λ (n : Option ℕ). IsNoneOr (role_number z.role) n) (sym ends.0) are.0);
-      peer = number_told (peer_number z.role) v.link.came (subst (λ (n : Option ℕ). IsNoneOr (peer_number z.role) n) (sym ends.1) are.1);
+      own = number_told (role_number z.role) v.link.written (subst (λ (n : Option ℕ). IsNoneOr (role_number z.role) n) (sym ends.0) is_own);
+      peer = number_told (peer_number z.role) v.link.came (subst (λ (n : Option ℕ). IsNoneOr (peer_number z.role) n) (sym ends.1) is_peer);
     }
+
+over_it : (o : Origins) (z : Setting) (place spent : ℕ) (scheme : Scheme) (own peer : Option ℕ) (v : TcpView) → AreNumbers o z scheme own peer → numbers_of v.wire.name ≡ numbers_of (OverLink place max_body (name_number scheme) spent own peer) → Framed v → OverIt z place spent v
+over_it o z place spent schemes.Inproc own peer v are e framed = absurd are
+over_it o z place spent schemes.Ws own peer v are e framed =
+    let all : numbers_of (wire_name v.link v.max framed.spent) ≡ numbers_of (OverLink place max_body (name_number schemes.Ws) spent own peer) = ap numbers_of (sym framed.name) ∙ e in
+    absurd (not_opened v.link.scheme (heads _ _ _ _ (tails _ _ _ _ (tails _ _ _ _ (tails _ _ _ _ all)))))
+over_it o z place spent schemes.Tcp own peer v are shown framed = over_at z place spent framings.Tcp own peer v are.0 are.1 shown framed
+over_it o z place spent schemes.Ipc own peer v are shown framed = over_at z place spent framings.Ipc own peer v are.0 are.1 shown framed
 
 some_holds : (P : List (List ℕ) → Type 0) (o : Option (List (List ℕ))) (x : List (List ℕ)) → o ≡ Some x → IfSome o P → P x
 some_holds P o x e h = subst (λ (q : Option (List (List ℕ))). IfSome q P) e h
 
 -- what came shows the frames
-came_prefix : (z : Setting) (past : List Entry) (p : ℕ) (v : TcpView) (s : List ℕ) → IfSome v.wire.came (λ texts. texts ≡ frames past p) → ShowsIn v s → number_in s ≡ peer_number z.role → IsPrefix (text (peer_number z.role) (frames past p)) s
+came_prefix : (z : Setting) (past : List Entry) (p : ℕ) (v : TcpView) (s : List ℕ) → IfSome v.wire.came (λ texts. texts ≡ frames past p) → ShowsIn v s → number_in s ≡ peer_number z.role → IsPrefix (stream_text v.framing (peer_number z.role) (frames past p)) s
 came_prefix z past p v s came shows_in number =
     let same : shows_in.bodies ≡ frames past p = some_holds (λ texts. texts ≡ frames past p) v.wire.came shows_in.bodies shows_in.came came in
-    subst (λ (fs : List (List ℕ)). IsPrefix (text (peer_number z.role) fs) s) same (subst (λ (n : ℕ). IsPrefix (text n shows_in.bodies) s) number shows_in.text_prefix)
+    subst (λ (fs : List (List ℕ)). IsPrefix (stream_text v.framing (peer_number z.role) fs) s) same (subst (λ (n : ℕ). IsPrefix (stream_text v.framing n shows_in.bodies) s) number shows_in.text_prefix)
 
 record WrittenAs (z : Setting) (past : List Entry) (p : ℕ) (v : TcpView) (s : List ℕ) : Type 0 where
   opens : IsPrefix (hello (role_number z.role)) s
-  prefix : IsPrefix s (text (role_number z.role) (outs past p))
-  all : v.wire.waits ≡ 0 → s ≡ text (role_number z.role) (outs past p)
+  prefix : IsPrefix s (stream_text v.framing (role_number z.role) (outs past p))
+  all : v.wire.waits ≡ 0 → s ≡ stream_text v.framing (role_number z.role) (outs past p)
 
 written_as : (z : Setting) (past : List Entry) (p : ℕ) (v : TcpView) (s : List ℕ) → IfSome v.wire.outs (λ texts. texts ≡ outs past p) → WrittenIn v s → number_in s ≡ role_number z.role → WrittenAs z past p v s
 written_as z past p v s outs_are w number =
     let same : w.whole ++ w.waiting ≡ outs past p = some_holds (λ texts. texts ≡ outs past p) v.wire.outs (w.whole ++ w.waiting) w.outs outs_are in
-    let is : s ≡ text (role_number z.role) w.whole ++ w.part = w.is ∙ ap (λ (n : ℕ). text n w.whole ++ w.part) number in
+    let is : s ≡ stream_text v.framing (role_number z.role) w.whole ++ w.part = w.is ∙ ap (λ (n : ℕ). stream_text v.framing n w.whole ++ w.part) number in
     record {
-      opens = hello_prefix (role_number z.role) w.whole s w.part is;
-      prefix = subst (λ (os : List (List ℕ)). IsPrefix s (text (role_number z.role) os)) same (written_prefix (role_number z.role) w.whole w.waiting w.part s is w.cut);
-      all = λ none. written_whole (role_number z.role) w.whole w.waiting w.part s is w.cut (w.waits ∙ none) ∙ ap (text (role_number z.role)) same;
+      opens = hello_prefix v.framing (role_number z.role) w.whole s w.part is;
+      prefix = subst (λ (os : List (List ℕ)). IsPrefix s (stream_text v.framing (role_number z.role) os)) same (written_prefix v.framing (role_number z.role) w.whole w.waiting w.part s is w.cut);
+      all = λ none. written_whole v.framing (role_number z.role) w.whole w.waiting w.part s is w.cut (w.waits ∙ none) ∙ ap (stream_text v.framing (role_number z.role)) same;
     }
 
 -- what is left of a pipe that is down: its link, shut
@@ -285,7 +305,7 @@ module _ (o : Origins) (z : Setting) (h : List (Turn Entry)) (p place : ℕ) (n 
       go (inl lt) = let r = n.over.rounds lt in omega (arith, r, waited)
       go (inr le) = omega (arith, total, few, le, waited)
 
-  -- ---- Over TCP
+  -- ---- Over TCP and IPC
 
   module _ (v : TcpView) (after : AfterShut w v.wire) (framed : Framed v) where
     over : OverIt z place n.over.spent v
@@ -297,28 +317,28 @@ module _ (o : Origins) (z : Setting) (h : List (Turn Entry)) (p place : ℕ) (n 
     outs_are : IfSome v.wire.outs (λ texts. texts ≡ outs past p)
     outs_are = subst (λ (c : Option (List (List ℕ))). IfSome c (λ texts. texts ≡ outs past p)) (sym (ap (λ (x : WireView). x.outs) after)) down.agrees.outs_is
 
-    came : Told v.link.came (λ s. IsPrefix (text (peer_number z.role) (frames past p)) s)
+    came : Told v.link.came (λ s. IsPrefix (stream_text v.framing (peer_number z.role) (frames past p)) s)
     came = told_both (ShowsIn v) (λ s. number_in s ≡ peer_number z.role) _ v.link.came (λ s a b. came_prefix z past p v s came_are a b) framed.came over.peer
 
     written : Told v.link.written (WrittenAs z past p v)
     written = told_both (WrittenIn v) (λ s. number_in s ≡ role_number z.role) _ v.link.written (λ s a b. written_as z past p v s outs_are a b) framed.written over.own
 
-    opened : HasOpened (run_ways z.role o) ways.Greeting v.link
-    opened = told_so _ _ v.link.came (λ s prefix. told_so (WrittenAs z past p v) _ v.link.written (λ t a. (hello_prefix (peer_number z.role) (frames past p) s prefix.0 prefix.1, λ owed e. subst (λ (l : List ℕ). IsPrefix l t) (sym e) a.opens)) written) came
+    opened : HasOpened (run_ways z.role o) (ways.Greeting v.framing) v.link
+    opened = told_so _ _ v.link.came (λ s prefix. told_so (WrittenAs z past p v) _ v.link.written (λ t a. (hello_prefix v.framing (peer_number z.role) (frames past p) s prefix.0 prefix.1, λ owed e. subst (λ (l : List ℕ). IsPrefix l t) (sym e) a.opens)) written) came
 
-    drained : Told v.link.came (λ s. v.wire.came ≡ Some (shows (number_in s) v.max s)) → IsDrained z max_body past p v.link
+    drained : Told v.link.came (λ s. v.wire.came ≡ Some (stream_shows v.framing (number_in s) v.max s)) → IsDrained v.framing z max_body past p v.link
     drained all = told_both _ _ _ v.link.came (λ s a b.
-        let same = some_holds (λ texts. texts ≡ frames past p) v.wire.came (shows (number_in s) v.max s) a came_are in
-        sym same ∙ ap (λ (k : ℕ). shows k v.max s) b ∙ ap (λ (m : ℕ). shows (peer_number z.role) m s) over.max_is) all over.peer
+        let same = some_holds (λ texts. texts ≡ frames past p) v.wire.came (stream_shows v.framing (number_in s) v.max s) a came_are in
+        sym same ∙ ap (λ (k : ℕ). stream_shows v.framing k v.max s) b ∙ ap (λ (m : ℕ). stream_shows v.framing (peer_number z.role) m s) over.max_is) all over.peer
 
-    too_long : Told v.link.came (λ s. IsOversize (number_in s) v.max s) → Told v.link.came (IsOversize (peer_number z.role) max_body)
-    too_long all = told_both _ _ _ v.link.came (λ s a b. subst (λ (m : ℕ). IsOversize (peer_number z.role) m s) over.max_is (subst (λ (k : ℕ). IsOversize k v.max s) b a)) all over.peer
+    is_bad : Told v.link.came (λ s. IsStreamBad v.framing (number_in s) v.max s) → Told v.link.came (IsStreamBad v.framing (peer_number z.role) max_body)
+    is_bad all = told_both _ _ _ v.link.came (λ s a b. subst (λ (m : ℕ). IsStreamBad v.framing (peer_number z.role) m s) over.max_is (subst (λ (k : ℕ). IsStreamBad v.framing k v.max s) b a)) all over.peer
 
-    went_down_by : (why : Why) → ShowsWhy z past p why w → WentDownFor z max_body past p why v.link
+    went_down_by : (why : Why) → ShowsWhy z past p why w → WentDownFor v.framing z max_body past p why v.link
     went_down_by whys.Ended s = let f = framed.ended (ap (λ (x : WireView). x.ended) after ∙ s) in (f.0, drained f.1)
     went_down_by whys.Failed s = let same = ap (λ (x : WireView). x.faults) after in omega (arith, s, same, framed.faults)
     went_down_by whys.Malformed (inl s) = inl s
-    went_down_by whys.Malformed (inr s) = let f = framed.malformed (ap (λ (x : WireView). x.malformed) after ∙ s) in inr (too_long f.1, drained f.0)
+    went_down_by whys.Malformed (inr s) = let f = framed.malformed (ap (λ (x : WireView). x.malformed) after ∙ s) in inr (is_bad f.1, drained f.0)
     went_down_by whys.Refusal s = let same = ap (λ (x : WireView). x.refusals) after in absurd (omega (arith, s, same, framed.refusals))
     went_down_by whys.Closed s = tt
     went_down_by whys.NoMemory s = tt
@@ -331,11 +351,11 @@ module _ (o : Origins) (z : Setting) (h : List (Turn Entry)) (p place : ℕ) (n 
       place_is = over.place_is;
       asked = asked_by v.link over.waited;
       carried = record {
-        opened = (ways.Greeting, (over.scheme, tt), opened);
-        carries = λ tcp. record { came = came; written = told_so _ _ v.link.written (λ s a. a.prefix) written };
-        went_down = λ tcp other e. subst (λ (y : Why). WentDownFor z max_body past p y v.link) (why_of other e) (went_down_by why down.shows);
+        opened = (ways.Greeting v.framing, (over.scheme, tt), opened);
+        carries = λ f under. subst (λ (k : Framing). Carries k z past p v.link) (framed_under v f framed.framed_by under) (record { came = came; written = told_so _ _ v.link.written (λ s a. a.prefix) written });
+        went_down = λ f under other e. subst (λ (k : Framing). WentDownFor k z max_body past p other v.link) (framed_under v f framed.framed_by under) (subst (λ (y : Why). WentDownFor v.framing z max_body past p y v.link) (why_of other e) (went_down_by why down.shows));
         read = read_by v.wire v.link after framed.idles;
-        whole = λ tcp cleared. told_so _ _ v.link.written (λ s a. a.all (ap (λ (x : WireView). x.waits) after ∙ down.agrees.waits_is cleared)) written;
+        whole = λ f under cleared. subst (λ (k : Framing). Told v.link.written (λ t. t ≡ stream_text k (role_number z.role) (outs past p))) (framed_under v f framed.framed_by under) (told_so _ _ v.link.written (λ s a. a.all (ap (λ (x : WireView). x.waits) after ∙ down.agrees.waits_is cleared)) written);
       };
     }
 
@@ -353,6 +373,9 @@ module _ (o : Origins) (z : Setting) (h : List (Turn Entry)) (p place : ℕ) (n 
     web_by schemes.Tcp own peer are e =
         let k : opened_number (scheme_number web.scheme) ≡ 0 = heads _ _ _ _ (tails _ _ _ _ (tails _ _ _ _ (tails _ _ _ _ (sym shown_as ∙ e)))) in
         absurd (omega (arith, k))
+    web_by schemes.Ipc own peer are e =
+        let k : opened_number (scheme_number web.scheme) ≡ 3 = heads _ _ _ _ (tails _ _ _ _ (tails _ _ _ _ (tails _ _ _ _ (sym shown_as ∙ e)))) in
+        absurd (omega (arith, k))
     web_by schemes.Ws own peer (own_is, (way, peer_is, of_way, known)) e =
         let e1 = tails _ _ _ _ (sym shown_as ∙ e) in
         let e2 = tails _ _ _ _ e1 in
@@ -369,18 +392,19 @@ module _ (o : Origins) (z : Setting) (h : List (Turn Entry)) (p place : ℕ) (n 
           asked = asked_by web (let t = stands.tied.waited in omega (arith, spent, t));
           carried = record {
             opened = (way, (scheme ∙ sym of_way, known), subst (λ (b : Way). HasOpened (run_ways z.role o) b web) same (subst (λ (r : Role). HasOpened (openings r (λ b. ⊤)) v.way web) role stands.begun));
-            carries = λ tcp. not_both scheme tcp;
-            went_down = λ tcp. not_both scheme tcp;
+            carries = λ f under. not_both f scheme under;
+            went_down = λ f under. not_both f scheme under;
             read = read_by v.wire web after (let t = stands.tied.idles in let i = ap (λ (x : WireView). x.idles) stands.wire in omega (arith, t, i));
-            whole = λ tcp. not_both scheme tcp;
+            whole = λ f under. not_both f scheme under;
           };
         }
       where
         some_number : (a b : ℕ) → Some a ≡ Some b → a ≡ b
         some_number a b h = cc
 
-        not_both : {A : Type 0} → web.scheme ≡ schemes.Ws → web.scheme ≡ schemes.Tcp → A
-        not_both a b = absurd (let no : 1 ≡ 0 = ap scheme_number (sym a ∙ b) in omega (arith, no))
+        not_both : {A : Type 0} → (f : Framing) → web.scheme ≡ schemes.Ws → web.scheme ≡ scheme_under f → A
+        not_both framings.Tcp a b = absurd (let no : 1 ≡ 0 = ap scheme_number (sym a ∙ b) in omega (arith, no))
+        not_both framings.Ipc a b = absurd (let no : 1 ≡ 3 = ap scheme_number (sym a ∙ b) in omega (arith, no))
 
     web_left : LeftBy o z h p place web
     web_left = web_by n.over.scheme n.over.own n.over.peer n.over.are (name_is v.wire after)

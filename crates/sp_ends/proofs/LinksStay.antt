@@ -6,7 +6,8 @@ use Rattle.std.specs.FinMap.{FinMap}
 use Rattle.std.specs.Ordering.{nat_cmp}
 use Rattle.turn_lock.specs.declared.turn.Turn.{Turn}
 use Rattle.sp_base.specs.Outside.{Told, IsPrefix}
-use Rattle.sp_base.specs.SpTcp.{text}
+use Rattle.sp_base.specs.SpStream.{stream_text}
+use Rattle.sp_base.specs.declared.framing.Framing.{Framing}
 use Rattle.sp_base.specs.Views.{LinkView, NetView}
 use Rattle.sp_base.specs.Roles.{role_number}
 use Rattle.sp_history.specs.declared.entry.Entry.{Entry}
@@ -81,23 +82,23 @@ rests_on place n _ past h r = r
 
 -- ---- A pipe that is back
 
-went_down_over : (z : Setting) (max : ℕ) (old new : List Entry) (p : ℕ) (why : Why) (link : LinkView) → frames new p ≡ frames old p → last_is_malformed z new p ≡ last_is_malformed z old p → WentDownFor z max old p why link → WentDownFor z max new p why link
-went_down_over z max old new p whys.Ended link f m x = (x.0, rw f x.1)
-went_down_over z max old new p whys.Failed link f m x = x
-went_down_over z max old new p whys.Malformed link f m (inl x) = inl (m ∙ x)
-went_down_over z max old new p whys.Malformed link f m (inr x) = inr (x.0, rw f x.1)
-went_down_over z max old new p whys.Refusal link f m x = x
-went_down_over z max old new p whys.Closed link f m x = tt
-went_down_over z max old new p whys.NoMemory link f m x = tt
+went_down_over : (framing : Framing) (z : Setting) (max : ℕ) (old new : List Entry) (p : ℕ) (why : Why) (link : LinkView) → frames new p ≡ frames old p → last_is_malformed z new p ≡ last_is_malformed z old p → WentDownFor framing z max old p why link → WentDownFor framing z max new p why link
+went_down_over framing z max old new p whys.Ended link f m x = (x.0, rw f x.1)
+went_down_over framing z max old new p whys.Failed link f m x = x
+went_down_over framing z max old new p whys.Malformed link f m (inl x) = inl (m ∙ x)
+went_down_over framing z max old new p whys.Malformed link f m (inr x) = inr (x.0, rw f x.1)
+went_down_over framing z max old new p whys.Refusal link f m x = x
+went_down_over framing z max old new p whys.Closed link f m x = tt
+went_down_over framing z max old new p whys.NoMemory link f m x = tt
 
 module _ (z : Setting) (h turns : List (Turn Entry)) where
   pub carried_over : (o : Origins) (p : ℕ) (link : LinkView) → SameOfPipe p (past_of h) (past_of (h ++ turns)) → last_is_malformed z (past_of (h ++ turns)) p ≡ last_is_malformed z (past_of h) p → is_cleared (past_of (h ++ turns)) p ≡ is_cleared (past_of h) p → HasCarried o z h p link → HasCarried o z (h ++ turns) p link
   carried_over o p link s m cl c =
       record {
         opened = c.opened;
-        carries = λ tcp. let k = c.carries tcp in record { came = subst (λ (fs : List (List ℕ)). Told link.came (λ came. IsPrefix (text (peer_number z.role) fs) came)) (sym s.frames) k.came; written = subst (λ (os : List (List ℕ)). Told link.written (λ written. IsPrefix written (text (role_number z.role) os))) (sym s.outs) k.written };
-        went_down = λ tcp why d. went_down_over z max_body (past_of h) (past_of (h ++ turns)) p why link s.frames m (c.went_down tcp why (sym s.cause ∙ d));
-        whole = λ tcp e. subst (λ (os : List (List ℕ)). Told link.written (λ written. written ≡ text (role_number z.role) os)) (sym s.outs) (c.whole tcp (sym cl ∙ e));
+        carries = λ framing under. let k = c.carries framing under in record { came = subst (λ (fs : List (List ℕ)). Told link.came (λ came. IsPrefix (stream_text framing (peer_number z.role) fs) came)) (sym s.frames) k.came; written = subst (λ (os : List (List ℕ)). Told link.written (λ written. IsPrefix written (stream_text framing (role_number z.role) os))) (sym s.outs) k.written };
+        went_down = λ framing under why d. went_down_over framing z max_body (past_of h) (past_of (h ++ turns)) p why link s.frames m (c.went_down framing under why (sym s.cause ∙ d));
+        whole = λ framing under e. subst (λ (os : List (List ℕ)). Told link.written (λ written. written ≡ stream_text framing (role_number z.role) os)) (sym s.outs) (c.whole framing under (sym cl ∙ e));
         read = λ rises. let r = c.read rises in let i = idle_same p h turns s.quiets in let n = ap length s.frames in omega (arith, r, i, n);
       }
 

@@ -64,10 +64,13 @@ ListensAlso result (addrs.Tcp host port) old new net net' reg reg' =
     ListensLink result (addrs.Tcp host port) old.links new.links net net' × (new.names ≡ old.names) × (reg' ≡ reg)
 ListensAlso result (addrs.Ws host port path) old new net net' reg reg' =
     ListensLink result (addrs.Ws host port path) old.links new.links net net' × (new.names ≡ old.names) × (reg' ≡ reg)
+ListensAlso result (addrs.Ipc path) old new net net' reg reg' =
+    ListensLink result (addrs.Ipc path) old.links new.links net net' × (new.names ≡ old.names) × (reg' ≡ reg)
 ListensAlso result (addrs.Inproc name) old new net net' reg reg' =
     ListensName result name old.links.role old.names new.names reg reg' × (new.links ≡ old.links) × (net' ≡ net)
 
 abbrev pub DialsAlso : {L : Type 0} → Result (Unit {0}) EndError → Addr → EndsView L → EndsView L → Type 0
 DialsAlso result (addrs.Tcp host port) old new = DialsLink result (addrs.Tcp host port) old.links new.links × (new.names ≡ old.names)
 DialsAlso result (addrs.Ws host port path) old new = DialsLink result (addrs.Ws host port path) old.links new.links × (new.names ≡ old.names)
+DialsAlso result (addrs.Ipc path) old new = DialsLink result (addrs.Ipc path) old.links new.links × (new.names ≡ old.names)
 DialsAlso result (addrs.Inproc name) old new = DialsName result name old.names new.names × (new.links ≡ old.links)

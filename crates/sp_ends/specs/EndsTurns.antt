@@ -220,6 +220,7 @@ abbrev pub asked_after : Scheme → ℕ → ℕ
 asked_after schemes.Tcp asked = asked
 asked_after schemes.Ws asked = min (asked + 1) (2 ^ 64 - 1)
 asked_after schemes.Inproc asked = asked
+asked_after schemes.Ipc asked = asked
 
 -- ---- Before and after a part of the turn
 

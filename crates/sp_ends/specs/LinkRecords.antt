@@ -5,11 +5,11 @@ use Rattle.std.specs.FinMap.{FinMap, get}
 use Rattle.std.specs.Ordering.{nat_cmp}
 use Rattle.turn_lock.specs.declared.turn.Turn.{Turn}
 use Rattle.sp_base.specs.Outside.{IsPrefix, Told}
-use Rattle.sp_base.specs.SpTcp.{text, shows, IsOversize}
+use Rattle.sp_base.specs.SpStream.{scheme_under, stream_text, stream_shows, IsStreamBad}
+use Rattle.sp_base.specs.declared.framing.Framing.{Framing}
 use Rattle.sp_base.specs.Views.{LinkView, NetView}
 use Rattle.sp_base.specs.Roles.{role_number}
 use Rattle.sp_base.specs.declared.OpName.{OpName}
-use Rattle.sp_base.specs.declared.addr.Scheme.TheVariants as schemes
 use Rattle.sp_history.specs.declared.entry.Cause.TheVariants.{TimedOut}
 use Rattle.sp_history.specs.declared.entry.Ending.TheVariants.{Gone}
 use Rattle.sp_history.specs.declared.entry.Miss.{Miss}
@@ -107,38 +107,39 @@ module _ (ways : Ways) (z : Setting) (record_ : List (Turn Entry)) where
 -- ---- Links that came up
 
 -- the frames that were pulled are a prefix of what came, and what was written is a prefix of what was put
-pub record Carries (z : Setting) (past : List Entry) (p : ℕ) (link : LinkView) : Type 0 where
-  pub came : Told link.came (λ came. IsPrefix (text (peer_number z.role) (frames past p)) came)
-  pub written : Told link.written (λ written. IsPrefix written (text (role_number z.role) (outs past p)))
+pub record Carries (framing : Framing) (z : Setting) (past : List Entry) (p : ℕ) (link : LinkView) : Type 0 where
+  pub came : Told link.came (λ came. IsPrefix (stream_text framing (peer_number z.role) (frames past p)) came)
+  pub written : Told link.written (λ written. IsPrefix written (stream_text framing (role_number z.role) (outs past p)))
 
 -- the last frame of the pipe is malformed
 abbrev pub went_down_for_frame : Setting → List Entry → ℕ → Bool
 went_down_for_frame z past p = last_is_malformed z past p
 
 -- all that the link shows was pulled
-abbrev pub IsDrained : Setting → ℕ → List Entry → ℕ → LinkView → Type 0
-IsDrained z max past p link = Told link.came (λ came. frames past p ≡ shows (peer_number z.role) max came)
+abbrev pub IsDrained : Framing → Setting → ℕ → List Entry → ℕ → LinkView → Type 0
+IsDrained framing z max past p link = Told link.came (λ came. frames past p ≡ stream_shows framing (peer_number z.role) max came)
 
--- why a pipe over TCP went down: its link has ended, and all that it shows was pulled; its link has failed; its last
--- frame is malformed, or the link shows a message above the limit, and all before it was pulled; never for a refusal;
--- the close and out of memory have no condition
-abbrev pub WentDownFor : Setting → ℕ → List Entry → ℕ → Why → LinkView → Type 0
-WentDownFor z max past p whys.Ended link = (link.ended ≡ true) × IsDrained z max past p link
-WentDownFor z max past p whys.Failed link = 1 ≤ link.faults
-WentDownFor z max past p whys.Malformed link =
-    IsTrue (went_down_for_frame z past p) ⊎ (Told link.came (IsOversize (peer_number z.role) max) × IsDrained z max past p link)
-WentDownFor z max past p whys.Refusal link = ⊥
-WentDownFor z max past p whys.Closed link = ⊤
-WentDownFor z max past p whys.NoMemory link = ⊤
+-- why a pipe over TCP or IPC went down: its link has ended, and all that it shows was pulled; its link has failed; its
+-- last frame is malformed, or the link shows what is not allowed (a message above the limit, and over IPC another byte
+-- than 01 before a size), and all before it was pulled; never for a refusal; the close and out of memory have no
+-- condition
+abbrev pub WentDownFor : Framing → Setting → ℕ → List Entry → ℕ → Why → LinkView → Type 0
+WentDownFor framing z max past p whys.Ended link = (link.ended ≡ true) × IsDrained framing z max past p link
+WentDownFor framing z max past p whys.Failed link = 1 ≤ link.faults
+WentDownFor framing z max past p whys.Malformed link =
+    IsTrue (went_down_for_frame z past p) ⊎ (Told link.came (IsStreamBad framing (peer_number z.role) max) × IsDrained framing z max past p link)
+WentDownFor framing z max past p whys.Refusal link = ⊥
+WentDownFor framing z max past p whys.Closed link = ⊤
+WentDownFor framing z max past p whys.NoMemory link = ⊤
 
--- for a pipe over this link: over TCP its texts, and why it went down
+-- for a pipe over this link: over TCP and IPC its texts, and why it went down
 pub record IsLinkOf (z : Setting) (max : ℕ) (past : List Entry) (p : ℕ) (link : LinkView) : Type 0 where
-  pub texts : link.scheme ≡ schemes.Tcp → Carries z past p link
-  pub went_down : link.scheme ≡ schemes.Tcp → (why : Why) → down_for past p ≡ Some why → WentDownFor z max past p why link
+  pub texts : (framing : Framing) → link.scheme ≡ scheme_under framing → Carries framing z past p link
+  pub went_down : (framing : Framing) → link.scheme ≡ scheme_under framing → (why : Why) → down_for past p ≡ Some why → WentDownFor framing z max past p why link
 
--- a told link of TCP that holds all that was put on its pipe
+-- a told link of TCP or IPC that holds all that was put on its pipe
 abbrev pub HoldsAll : Setting → List Entry → ℕ → LinkView → Type 0
-HoldsAll z past p link = (link.scheme ≡ schemes.Tcp) × (link.written ≡ Some (text (role_number z.role) (outs past p)))
+HoldsAll z past p link = (framing : Framing) × (link.scheme ≡ scheme_under framing) × (link.written ≡ Some (stream_text framing (role_number z.role) (outs past p)))
 
 -- ---- Limits, memory, other links
 
@@ -156,11 +157,11 @@ has_dry_miss (_ ∷ past) = has_dry_miss past
 abbrev pub KeepsOthers : NetView → NetView → Type 0
 KeepsOthers old new = (place : ℕ) → (place < old.opened) ⊎ (new.opened ≤ place) → get new.back place ≡ get old.back place
 
--- each told link of TCP whose pipe was up when the socket closed holds its whole text
+-- each told link of TCP or IPC whose pipe was up when the socket closed holds its whole text
 abbrev pub AreWhole : Setting → NetView → List Entry → Type 0
 AreWhole z net past =
-    (p place : ℕ) (link : LinkView) → down_for past p ≡ Some whys.Closed → place_of past p ≡ Some place → place ≢ lane_place → place < net.opened → get net.back place ≡ Some link → link.scheme ≡ schemes.Tcp
-    → Told link.written (λ written. written ≡ text (role_number z.role) (outs past p))
+    (p place : ℕ) (link : LinkView) → down_for past p ≡ Some whys.Closed → place_of past p ≡ Some place → place ≢ lane_place → place < net.opened → get net.back place ≡ Some link
+    → (framing : Framing) → link.scheme ≡ scheme_under framing → Told link.written (λ written. written ≡ stream_text framing (role_number z.role) (outs past p))
 
 -- ---- Deadlines
 

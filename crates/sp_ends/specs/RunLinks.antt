@@ -4,7 +4,8 @@ use Rattle.std.specs.List.{AllByRecursion}
 use Rattle.std.specs.FinMap.{get}
 use Rattle.turn_lock.specs.declared.turn.Turn.{Turn}
 use Rattle.sp_base.specs.Outside.{Told}
-use Rattle.sp_base.specs.SpTcp.{text}
+use Rattle.sp_base.specs.SpStream.{scheme_under, stream_text}
+use Rattle.sp_base.specs.declared.framing.Framing.{Framing}
 use Rattle.sp_base.specs.Views.{LinkView, NetView}
 use Rattle.sp_base.specs.Roles.{role_number}
 use Rattle.sp_base.specs.declared.addr.Scheme.{Scheme}
@@ -80,18 +81,20 @@ abbrev pub IsNoneOr : ℕ → Option ℕ → Type 0
 IsNoneOr n None = ⊤
 IsNoneOr n (Some m) = m ≡ n
 
--- the two numbers in the name of a wire: over TCP those of the two roles, where told; over WebSocket that of the own
+-- the two numbers in the name of a wire: over TCP and IPC those of the two roles, where told; over WebSocket that of the own
 -- role, and that of the way in which its link began
 abbrev pub AreNumbers : Origins → Setting → Scheme → Option ℕ → Option ℕ → Type 0
 AreNumbers o z schemes.Tcp own peer = IsNoneOr (role_number z.role) own × IsNoneOr (peer_number z.role) peer
 AreNumbers o z schemes.Ws own peer = (own ≡ Some (role_number z.role)) × ((way : Way) × (peer ≡ Some (way_number way)) × (scheme_for way ≡ schemes.Ws) × IsKnown o way)
 AreNumbers o z schemes.Inproc own peer = ⊥
+AreNumbers o z schemes.Ipc own peer = IsNoneOr (role_number z.role) own × IsNoneOr (peer_number z.role) peer
 
 -- the number in place of the scheme's in the name of a wire
 abbrev pub name_number : Scheme → ℕ
 name_number schemes.Tcp = scheme_number schemes.Tcp
 name_number schemes.Ws = opened_number (scheme_number schemes.Ws)
 name_number schemes.Inproc = scheme_number schemes.Inproc
+name_number schemes.Ipc = scheme_number schemes.Ipc
 
 -- the name of a wire over the link with this place. While the link was in progress it returned at least once a tick,
 -- except for one tick, that nothing was there or that it took nothing
@@ -117,11 +120,11 @@ IsNamed o z past _ = ⊤
 -- a link that carried this pipe
 pub record HasCarried (o : Origins) (z : Setting) (h : List (Turn Entry)) (p : ℕ) (link : LinkView) : Type 0 where
   pub opened : BeganSo (run_ways z.role o) link (λ way. HasOpened (run_ways z.role o) way link)
-  pub carries : link.scheme ≡ schemes.Tcp → Carries z (past_of h) p link
-  pub went_down : link.scheme ≡ schemes.Tcp → (why : Why) → down_for (past_of h) p ≡ Some why → WentDownFor z max_body (past_of h) p why link
+  pub carries : (framing : Framing) → link.scheme ≡ scheme_under framing → Carries framing z (past_of h) p link
+  pub went_down : (framing : Framing) → link.scheme ≡ scheme_under framing → (why : Why) → down_for (past_of h) p ≡ Some why → WentDownFor framing z max_body (past_of h) p why link
   pub read : IsRead h p link
-  -- over TCP, where all was cleared, all that was put is written
-  pub whole : link.scheme ≡ schemes.Tcp → is_cleared (past_of h) p ≡ true → Told link.written (λ written. written ≡ text (role_number z.role) (outs (past_of h) p))
+  -- over TCP and IPC, where all was cleared, all that was put is written
+  pub whole : (framing : Framing) → link.scheme ≡ scheme_under framing → is_cleared (past_of h) p ≡ true → Told link.written (λ written. written ≡ stream_text framing (role_number z.role) (outs (past_of h) p))
 
 -- ---- Links that are back
 

@@ -39,7 +39,7 @@ impl<L: Link> Ends<L> {
         })
     }
 
-    /// Listens on one more address of any kind: for TCP and WebSocket over the net, for names in `inproc`. Returns
+    /// Listens on one more address of any kind: for TCP, IPC and WebSocket over the net, for names in `inproc`. Returns
     /// `InUse` only where the name is already listened on there.
     pub fn listen<N: Net<L = L>>(
         &mut self,
@@ -56,6 +56,7 @@ impl<L: Link> Ends<L> {
                 port: _,
                 path: _,
             } => self.links.listen(net, addr),
+            Addr::Ipc { path: _ } => self.links.listen(net, addr),
             Addr::Inproc { name } => self.names.listen(inproc, name.as_slice(), self.links.role),
         }
     }
@@ -72,6 +73,7 @@ impl<L: Link> Ends<L> {
                 port: _,
                 path: _,
             } => self.links.dial(addr),
+            Addr::Ipc { path: _ } => self.links.dial(addr),
             Addr::Inproc { name } => self.names.dial(name.as_slice()),
         }
     }

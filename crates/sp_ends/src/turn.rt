@@ -526,5 +526,6 @@ fn asked_after(scheme: Scheme, asked: u64) -> u64
         Scheme::Tcp => asked,
         Scheme::Ws => asked.saturating_add(1),
         Scheme::Inproc => asked,
+        Scheme::Ipc => asked,
     }
 }

@@ -374,6 +374,7 @@ fn is_same(a: &Addr, b: &Addr) -> bool
             },
         ) => host == h && port == p && path.as_slice() == q.as_slice(),
         (Addr::Inproc { name }, Addr::Inproc { name: n }) => name.as_slice() == n.as_slice(),
+        (Addr::Ipc { path }, Addr::Ipc { path: p }) => path.as_slice() == p.as_slice(),
         _ => false,
     }
 }

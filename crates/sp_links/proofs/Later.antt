@@ -90,27 +90,27 @@ good_or_bad : (u : ℕ) (a : List ℕ) (f : HeadFault) → heads.Good u a ≡ he
 good_or_bad u a f e = cc e
 
 pub stays_good : (role : Role) (way : Way) → StaysGood role way
-stays_good role ways.Greeting came more x = prefix_later (hello (peer_number role)) came more x
+stays_good role (ways.Greeting framing) came more x = prefix_later (hello (peer_number role)) came more x
 stays_good role (ways.Serves path) came more (u, a, x) = (u, a, good_later came more (GoodRequest role path) (BadRequest role path) u a x)
 stays_good role (ways.Asks addr start) came more (u, a, x) = (u, a, good_later came more (GoodResponse role (key_of start)) (BadResponse role (key_of start)) u a x)
 
 pub stays_bad : (role : Role) (way : Way) → StaysBad role way
-stays_bad role ways.Greeting came more x = bad_greeting (peer_number role) came more x
+stays_bad role (ways.Greeting framing) came more x = bad_greeting (peer_number role) came more x
 stays_bad role (ways.Serves path) came more (f, x) = (f, bad_later came more (GoodRequest role path) (BadRequest role path) f x)
 stays_bad role (ways.Asks addr start) came more (f, x) = (f, bad_later came more (GoodResponse role (key_of start)) (BadResponse role (key_of start)) f x)
 
 pub never_both : (role : Role) (way : Way) → IsNeverBoth role way
-never_both role ways.Greeting came x y = y.1 x
+never_both role (ways.Greeting framing) came x y = y.1 x
 never_both role (ways.Serves path) came (u, a, x) (f, y) = good_or_bad u a f (one_server_answer role path came (heads.Good u a) (heads.Bad f) x y (λ e. cc e) (λ e. cc e))
 never_both role (ways.Asks addr start) came (u, a, x) (f, y) = good_or_bad u a f (one_client_answer role (key_of start) came (heads.Good u a) (heads.Bad f) x y (λ e. cc e) (λ e. cc e))
 
 pub owes_one_text : (role : Role) (way : Way) → OwesOne role way
-owes_one_text role ways.Greeting came a b x y = x ∙ sym y
+owes_one_text role (ways.Greeting framing) came a b x y = x ∙ sym y
 owes_one_text role (ways.Serves path) came a b (u, x) (v, y) = same_good u v a b (one_server_answer role path came (heads.Good u a) (heads.Good v b) x y (λ e. cc e) (λ e. cc e))
 owes_one_text role (ways.Asks addr start) came a b x y = one_request role addr start a b x y
 
 pub owes_no_more : (role : Role) (way : Way) → OwesNoMore role way
-owes_no_more role ways.Greeting came more owed g o = o
+owes_no_more role (ways.Greeting framing) came more owed g o = o
 owes_no_more role (ways.Serves path) came more owed (u, a, x) (v, y) =
     let same : owed ≡ a = same_good v u owed a (one_server_answer role path (came ++ more) (heads.Good v owed) (heads.Good u a) y (good_later came more (GoodRequest role path) (BadRequest role path) u a x) (λ e. cc e) (λ e. cc e)) in
     (u, subst (λ (t : List ℕ). ServerAnswers (heads.Good u t) came role path) (sym same) x)

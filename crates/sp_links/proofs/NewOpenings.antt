@@ -24,7 +24,7 @@ short_none = (omega arith, no_blank)
 
 -- nothing came yet
 pub more_first : (role : Role) (way : Way) → IsMore role way []
-more_first role ways.Greeting = ((hello (peer_number role), refl), omega arith)
+more_first role (ways.Greeting framing) = ((hello (peer_number role), refl), omega arith)
 more_first role (ways.Serves path) = short_none
 more_first role (ways.Asks addr start) = short_none
 

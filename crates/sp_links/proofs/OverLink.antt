@@ -6,6 +6,9 @@ use Rattle.sp_base.specs.Outside.{Told, IsPrefix}
 use Rattle.sp_base.specs.SpTcp.{hello}
 use Rattle.sp_base.specs.Views.{LinkView}
 use Rattle.sp_base.specs.Roles.{role_number}
+use Rattle.sp_base.specs.declared.framing.Framing.{Framing}
+use Rattle.sp_base.specs.SpStream.{framing_for}
+use Rattle.sp_base.proofs.StreamShows.{framing-under}
 use Rattle.sp_base.specs.declared.role.Role.{Role}
 use Rattle.sp_tcp.specs.TcpWires.{Met}
 use Rattle.sp_upgrade.specs.Opening.{Answers, GoodRequest, BadRequest, GoodResponse, BadResponse}
@@ -16,18 +19,18 @@ use Rattle.sp_links.specs.declared.way.Way.{Way}
 use Rattle.sp_links.specs.declared.way.Way.TheVariants as ways
 use Rattle.sp_links.specs.declared.opening.Opening.{Opening}
 use Rattle.sp_links.specs.Keys.{key_of}
-use Rattle.sp_links.specs.Openings.{Begins, OpensWith, IsGood, Owes}
+use Rattle.sp_links.specs.Openings.{scheme_for, Begins, OpensWith, IsGood, Owes}
 use Rattle.sp_links.specs.Going.{IsOwn, IsOpened}
 use Rattle.sp_links.proofs.Greetings.{hello_long}
 use Rattle.sp_links.proofs.Owing.{opens_good, owes_one}
-use Rattle.sp_links.specs.Opened.{IsBegun, side_of}
+use Rattle.sp_links.specs.Opened.{IsBegun, side_of, framed_by}
 
 head_within : (Good : List ℕ → List ℕ → Type 0) (Bad : List ℕ → HeadFault → Type 0) (u : ℕ) (a came : List ℕ) → Answers Good Bad (heads.Good u a) came → u ≤ length came
 head_within Good Bad u a came (head, has, long, good) = omega (arith, long, ap length has.head_is, length-take has.used came)
 
 -- the peer's part is among what came
 within : (role : Role) (way : Way) (u : ℕ) (a came : List ℕ) → OpensWith role way u a came → u ≤ length came
-within role ways.Greeting u a came x = omega (arith, x.0, ap length x.2.1, length-append (hello (peer_number role)) x.2.0, hello_long (peer_number role))
+within role (ways.Greeting framing) u a came x = omega (arith, x.0, ap length x.2.1, length-append (hello (peer_number role)) x.2.0, hello_long (peer_number role))
 within role (ways.Serves path) u a came x = head_within (GoodRequest role path) (BadRequest role path) u a came x
 within role (ways.Asks addr start) u a came x = head_within (GoodResponse role (key_of start)) (BadResponse role (key_of start)) u a came x
 
@@ -64,9 +67,9 @@ module _ {L : Type 0} (seen : L → LinkView) (n : Opening L) (o : IsOpened seen
       go (Some c) None x y = tt
       go (Some c) (Some w) x y = (good c x, λ owed d. prefix c w owed x y d)
 
-  -- over TCP both greetings are whole
-  pub hellos : (u : ℕ) → n.used ≡ Some u → n.way ≡ ways.Greeting → Told (seen n.link).written (λ t. t ≡ hello (role_number n.role)) × Told (seen n.link).came (λ s. s ≡ hello (peer_number n.role) ++ drop u n.came)
-  hellos u e by =
+  -- over TCP and IPC both greetings are whole
+  pub hellos : (framing : Framing) (u : ℕ) → n.used ≡ Some u → n.way ≡ ways.Greeting framing → Told (seen n.link).written (λ t. t ≡ hello (role_number n.role)) × Told (seen n.link).came (λ s. s ≡ hello (peer_number n.role) ++ drop u n.came)
+  hellos framing u e by =
       let own = own_as u e in
       let first = subst (λ (v : Way). Begins n.role v own.0) by own.2 in
       let opens = subst (λ (v : Way). OpensWith n.role v u own.1 n.came) by own.3 in
@@ -79,6 +82,12 @@ module _ {L : Type 0} (seen : L → LinkView) (n : Opening L) (o : IsOpened seen
   met u e none = go n.way refl none
     where
       go : (way : Way) → n.way ≡ way → side_of n.way ≡ None → Met (drop u n.came) (seen n.link)
-      go ways.Greeting is x = let h = hellos u e is in (n.role, h.0, h.1)
+      go (ways.Greeting framing) is x = let h = hellos framing u e is in (n.role, h.0, h.1)
       go (ways.Serves path) is x = absurd (cc (sym (ap side_of is) ∙ x))
       go (ways.Asks addr start) is x = absurd (cc (sym (ap side_of is) ∙ x))
+
+-- the framing of a way is that of its scheme
+pub framed_as : (way : Way) → framed_by way ≡ framing_for (scheme_for way)
+framed_as (ways.Greeting framing) = sym (framing-under framing)
+framed_as (ways.Serves path) = refl
+framed_as (ways.Asks addr start) = refl

@@ -19,6 +19,7 @@ request_for role (addrs.Ws (hosts.V4 a b c d) port path) start text x all = (hos
 request_for role (addrs.Ws hosts.Any port path) start text x all = absurd x
 request_for role (addrs.Tcp host port) start text x all = absurd x
 request_for role (addrs.Inproc name) start text x all = absurd x
+request_for role (addrs.Ipc socket) start text x all = absurd x
 
 same_path : (addr : Addr) (h k p q : List ℕ) → Dials addr h p → Dials addr k q → p ≡ q
 same_path addr h k p q x y =

@@ -4,9 +4,11 @@ use Rattle.sp_base.specs.declared.addr.Host.{Host}
 use Rattle.sp_base.specs.declared.addr.Host.TheVariants as hosts
 use Rattle.sp_base.specs.declared.addr.Addr.{Addr}
 use Rattle.sp_base.specs.declared.addr.Addr.TheVariants as addrs
+use Rattle.sp_base.specs.declared.framing.Framing.{Framing}
+use Rattle.sp_base.specs.declared.framing.Framing.TheVariants as framings
 use Rattle.sp_links.specs.declared.way.Way.{Way}
 use Rattle.sp_links.specs.declared.way.Way.TheVariants as ways
-use Rattle.sp_links.specs.Numbers.{pair_number, list_number, host_numbers, addr_numbers, way_numbers, way_number}
+use Rattle.sp_links.specs.Numbers.{pair_number, list_number, host_numbers, addr_numbers, framing_number, way_numbers, way_number}
 
 -- ---- Pairs and lists
 
@@ -68,11 +70,18 @@ addr_one (addrs.Tcp h n) (addrs.Tcp k m) e =
     λ x. addrs.Tcp (hk x) (p x)
 addr_one (addrs.Tcp h n) (addrs.Inproc name) e = let z : 0 ≡ 1 = heads_are 0 1 _ _ e in absurd (omega (arith, z))
 addr_one (addrs.Tcp h n) (addrs.Ws k m path) e = let z : 0 ≡ 2 = heads_are 0 2 _ _ e in absurd (omega (arith, z))
+addr_one (addrs.Tcp h n) (addrs.Ipc path) e = let z : 0 ≡ 3 = heads_are 0 3 _ _ e in absurd (omega (arith, z))
 addr_one (addrs.Inproc name) (addrs.Tcp k m) e = let z : 1 ≡ 0 = heads_are 1 0 _ _ e in absurd (omega (arith, z))
 addr_one (addrs.Inproc name) (addrs.Inproc other) e = ap addrs.Inproc (tails_are 1 1 _ _ e)
 addr_one (addrs.Inproc name) (addrs.Ws k m path) e = let z : 1 ≡ 2 = heads_are 1 2 _ _ e in absurd (omega (arith, z))
+addr_one (addrs.Inproc name) (addrs.Ipc path) e = let z : 1 ≡ 3 = heads_are 1 3 _ _ e in absurd (omega (arith, z))
 addr_one (addrs.Ws h n p) (addrs.Tcp k m) e = let z : 2 ≡ 0 = heads_are 2 0 _ _ e in absurd (omega (arith, z))
 addr_one (addrs.Ws h n p) (addrs.Inproc name) e = let z : 2 ≡ 1 = heads_are 2 1 _ _ e in absurd (omega (arith, z))
+addr_one (addrs.Ws h n p) (addrs.Ipc path) e = let z : 2 ≡ 3 = heads_are 2 3 _ _ e in absurd (omega (arith, z))
+addr_one (addrs.Ipc path) (addrs.Tcp k m) e = let z : 3 ≡ 0 = heads_are 3 0 _ _ e in absurd (omega (arith, z))
+addr_one (addrs.Ipc path) (addrs.Inproc name) e = let z : 3 ≡ 1 = heads_are 3 1 _ _ e in absurd (omega (arith, z))
+addr_one (addrs.Ipc path) (addrs.Ws k m p) e = let z : 3 ≡ 2 = heads_are 3 2 _ _ e in absurd (omega (arith, z))
+addr_one (addrs.Ipc path) (addrs.Ipc other) e = ap addrs.Ipc (tails_are 3 3 _ _ e)
 addr_one (addrs.Ws h n p) (addrs.Ws k m q) e =
     let f = tails_are 2 2 _ _ e in
     let nm : n ≡ m = heads_are n m _ _ f in
@@ -81,14 +90,20 @@ addr_one (addrs.Ws h n p) (addrs.Ws k m q) e =
     let pq : p ≡ q = r.1 in
     λ x. addrs.Ws (hk x) (nm x) (pq x)
 
+framing_one : (f g : Framing) → framing_number f ≡ framing_number g → f ≡ g
+framing_one framings.Tcp framings.Tcp e = refl
+framing_one framings.Tcp framings.Ipc e = absurd (omega (arith, e))
+framing_one framings.Ipc framings.Tcp e = absurd (omega (arith, e))
+framing_one framings.Ipc framings.Ipc e = refl
+
 ways_one : (v w : Way) → way_numbers v ≡ way_numbers w → v ≡ w
-ways_one ways.Greeting ways.Greeting e = refl
-ways_one ways.Greeting (ways.Serves q) e = let z : 0 ≡ 1 = heads_are 0 1 _ _ e in absurd (omega (arith, z))
-ways_one ways.Greeting (ways.Asks b t) e = let z : 0 ≡ 2 = heads_are 0 2 _ _ e in absurd (omega (arith, z))
-ways_one (ways.Serves p) ways.Greeting e = let z : 1 ≡ 0 = heads_are 1 0 _ _ e in absurd (omega (arith, z))
+ways_one (ways.Greeting f) (ways.Greeting g) e = ap ways.Greeting (framing_one f g (heads_are (framing_number f) (framing_number g) [] [] (tails_are 0 0 _ _ e)))
+ways_one (ways.Greeting f) (ways.Serves q) e = let z : 0 ≡ 1 = heads_are 0 1 _ _ e in absurd (omega (arith, z))
+ways_one (ways.Greeting f) (ways.Asks b t) e = let z : 0 ≡ 2 = heads_are 0 2 _ _ e in absurd (omega (arith, z))
+ways_one (ways.Serves p) (ways.Greeting f) e = let z : 1 ≡ 0 = heads_are 1 0 _ _ e in absurd (omega (arith, z))
 ways_one (ways.Serves p) (ways.Serves q) e = ap ways.Serves (tails_are 1 1 _ _ e)
 ways_one (ways.Serves p) (ways.Asks b t) e = let z : 1 ≡ 2 = heads_are 1 2 _ _ e in absurd (omega (arith, z))
-ways_one (ways.Asks a s) ways.Greeting e = let z : 2 ≡ 0 = heads_are 2 0 _ _ e in absurd (omega (arith, z))
+ways_one (ways.Asks a s) (ways.Greeting f) e = let z : 2 ≡ 0 = heads_are 2 0 _ _ e in absurd (omega (arith, z))
 ways_one (ways.Asks a s) (ways.Serves q) e = let z : 2 ≡ 1 = heads_are 2 1 _ _ e in absurd (omega (arith, z))
 ways_one (ways.Asks a s) (ways.Asks b t) e =
     let f = tails_are 2 2 _ _ e in

@@ -6,6 +6,7 @@ use Rattle.sp_msg.specs.Views.{MessageView, WireView, OverLanes, wire_text}
 use Rattle.sp_msg.specs.declared.wire.WireIn.{WireIn}
 use Rattle.sp_msg.specs.declared.wire.Room.{Room}
 use Rattle.sp_msg.specs.declared.wire.WireFlush.{WireFlush}
+use Rattle.sp_base.specs.declared.framing.Framing.{Framing}
 use Rattle.sp_base.specs.declared.role.Role.{Role}
 use Rattle.sp_tcp.specs.TcpWires.{Framed, IsNewWire as IsNewTcp, TcpPulled, TcpWrote, RoomCause as TcpRoom, FlushCause as TcpFlush}
 use Rattle.sp_ws.specs.Wires.{IsNewWire as IsNewWs, WsPulled, WsWrote, RoomCause as WsRoom, FlushCause as WsFlush}
@@ -13,7 +14,7 @@ use Rattle.sp_ws.specs.declared.side.Side.{Side}
 use Rattle.sp_lane.specs.LaneWires.{LanePulled, LaneRoomed, LaneFlushed, SameLanes}
 use Rattle.sp_links.specs.declared.way.Way.{Way}
 use Rattle.sp_links.specs.declared.opening.Opening.{Opening}
-use Rattle.sp_links.specs.Opened.{IsOpenedOver, IsSameWay, side_of}
+use Rattle.sp_links.specs.Opened.{IsOpenedOver, IsSameWay, side_of, framed_by}
 use Rattle.sp_links.specs.declared.wire.EndWire.{EndWire}
 use Rattle.sp_links.specs.declared.wire.EndWire.TheVariants as wires
 
@@ -83,9 +84,9 @@ Shuts _ _ = ⊥
 
 -- ---- a new one
 
-abbrev pub IsNewTcpOver : {L : Type 0} → ℕ → LinkView → EndWire L → Type 0
-IsNewTcpOver max link (wires.Tcp v) = IsNewTcp max link v
-IsNewTcpOver max link _ = ⊥
+abbrev pub IsNewTcpOver : {L : Type 0} → Framing → ℕ → LinkView → EndWire L → Type 0
+IsNewTcpOver framing max link (wires.Tcp v) = IsNewTcp framing max link v
+IsNewTcpOver framing max link _ = ⊥
 
 abbrev pub IsNewWsOver : {L : Type 0} → Side → ℕ → List ℕ → Role → Way → LinkView → EndWire L → Type 0
 IsNewWsOver side max rest role way link (wires.Ws v) = IsNewWs side max rest link v.ws × (v.role ≡ role) × (v.way ≡ way) × IsOpenedOver v
@@ -93,7 +94,7 @@ IsNewWsOver side max rest role way link _ = ⊥
 
 -- by its transport
 abbrev pub IsNewBy : {L : Type 0} → Option Side → ℕ → List ℕ → Role → Way → LinkView → EndWire L → Type 0
-IsNewBy None max rest role way link w = IsNewTcpOver max link w
+IsNewBy None max rest role way link w = IsNewTcpOver (framed_by way) max link w
 IsNewBy (Some side) max rest role way link w = IsNewWsOver side max rest role way link w
 
 abbrev pub behind : Option ℕ → List ℕ → List ℕ

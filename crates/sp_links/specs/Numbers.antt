@@ -4,6 +4,8 @@ use Rattle.sp_base.specs.declared.addr.Host.{Host}
 use Rattle.sp_base.specs.declared.addr.Host.TheVariants as hosts
 use Rattle.sp_base.specs.declared.addr.Addr.{Addr}
 use Rattle.sp_base.specs.declared.addr.Addr.TheVariants as addrs
+use Rattle.sp_base.specs.declared.framing.Framing.{Framing}
+use Rattle.sp_base.specs.declared.framing.Framing.TheVariants as framings
 use Rattle.sp_links.specs.declared.way.Way.{Way}
 use Rattle.sp_links.specs.declared.way.Way.TheVariants as ways
 
@@ -25,9 +27,14 @@ abbrev pub addr_numbers : Addr → List ℕ
 addr_numbers (addrs.Tcp host port) = 0 ∷ port ∷ host_numbers host
 addr_numbers (addrs.Inproc name) = 1 ∷ name
 addr_numbers (addrs.Ws host port path) = 2 ∷ port ∷ (host_numbers host ++ path)
+addr_numbers (addrs.Ipc path) = 3 ∷ path
+
+abbrev pub framing_number : Framing → ℕ
+framing_number framings.Tcp = 0
+framing_number framings.Ipc = 1
 
 abbrev pub way_numbers : Way → List ℕ
-way_numbers ways.Greeting = 0 ∷ []
+way_numbers (ways.Greeting framing) = 0 ∷ framing_number framing ∷ []
 way_numbers (ways.Serves path) = 1 ∷ path
 way_numbers (ways.Asks addr start) = 2 ∷ start ∷ addr_numbers addr
 

@@ -2,6 +2,8 @@
 use Rattle.std.specs.Prelude.{◌≡◌, ◌+◌, ℕ, ⊤, Option, Some, None}
 use Rattle.sp_base.specs.Views.{LinkView}
 use Rattle.sp_base.specs.Roles.{role_number}
+use Rattle.sp_base.specs.declared.framing.Framing.{Framing}
+use Rattle.sp_base.specs.declared.framing.Framing.TheVariants as framings
 use Rattle.sp_base.specs.declared.role.Role.{Role}
 use Rattle.sp_msg.specs.Views.{WireView, WireName, OverLink, OverLanes, Nameless}
 use Rattle.sp_ws.specs.Wires.{WsView, Tied}
@@ -20,7 +22,7 @@ IsBegun role way link = HasOpened (openings role (λ w. ⊤)) way link
 
 -- the number in place of that of the scheme: no scheme has it, so no wire of another kind has such a name
 abbrev pub opened_number : ℕ → ℕ
-opened_number scheme = scheme + 3
+opened_number scheme = scheme + 4
 
 -- the name with the own role and the way
 abbrev pub named : Role → Way → WireName → WireName
@@ -53,6 +55,12 @@ pub record IsSameWay (old new : OpenedView) : Type 0 where
 
 -- the side of a WebSocket that was opened in this way
 abbrev pub side_of : Way → Option Side
-side_of ways.Greeting = None
+side_of (ways.Greeting framing) = None
 side_of (ways.Serves path) = Some sides.Server
 side_of (ways.Asks addr start) = Some (sides.Client (seed_of start))
+
+-- how messages are framed on a link that was opened in this way
+abbrev pub framed_by : Way → Framing
+framed_by (ways.Greeting framing) = framing
+framed_by (ways.Serves path) = framings.Tcp
+framed_by (ways.Asks addr start) = framings.Tcp

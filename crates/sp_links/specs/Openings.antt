@@ -1,7 +1,8 @@
--- How links of a run begin, over TCP and over WebSocket.
+-- How links of a run begin, over TCP, IPC and WebSocket.
 use Rattle.std.specs.Prelude.{◌≡◌, ◌<◌, ℕ, ⊤, List, [], length}
 use Rattle.sp_base.specs.Outside.{IsPrefix}
 use Rattle.sp_base.specs.SpTcp.{hello, IsBadGreeting}
+use Rattle.sp_base.specs.SpStream.{scheme_under}
 use Rattle.sp_base.specs.Roles.{role_number, role_peer}
 use Rattle.sp_base.specs.declared.role.Role.{Role}
 use Rattle.sp_base.specs.declared.addr.Scheme.{Scheme}
@@ -21,19 +22,19 @@ use Rattle.sp_links.specs.Keys.{key_of}
 
 -- the scheme of the links that begin in this way
 abbrev pub scheme_for : Way → Scheme
-scheme_for ways.Greeting = schemes.Tcp
+scheme_for (ways.Greeting framing) = scheme_under framing
 scheme_for (ways.Serves path) = schemes.Ws
 scheme_for (ways.Asks addr start) = schemes.Ws
 
 -- an address that is asked has one host
 abbrev pub CanBegin : Way → Type 0
-CanBegin ways.Greeting = ⊤
+CanBegin (ways.Greeting framing) = ⊤
 CanBegin (ways.Serves path) = ⊤
 CanBegin (ways.Asks addr start) = IsDialed addr
 
 -- the request for this address
 abbrev pub IsRequestFor : Role → Way → List ℕ → Type 0
-IsRequestFor role ways.Greeting text = ⊥
+IsRequestFor role (ways.Greeting framing) text = ⊥
 IsRequestFor role (ways.Serves path) text = ⊥
 IsRequestFor role (ways.Asks addr start) text = (host : List ℕ) × (path : List ℕ) × Dials addr host path × (text ≡ request_text (role_peer role) host path (key_of start))
 
@@ -41,37 +42,37 @@ IsRequestFor role (ways.Asks addr start) text = (host : List ℕ) × (path : Lis
 
 -- what came is a part of the peer's part
 abbrev pub IsMore : Role → Way → List ℕ → Type 0
-IsMore role ways.Greeting came = IsPrefix came (hello (peer_number role)) × (length came < 8)
+IsMore role (ways.Greeting framing) came = IsPrefix came (hello (peer_number role)) × (length came < 8)
 IsMore role (ways.Serves path) came = IsShort came
 IsMore role (ways.Asks addr start) came = IsShort came
 
 -- the first `used` bytes that came are the peer's part, whole and right, and this is to be written for it
 abbrev pub OpensWith : Role → Way → ℕ → List ℕ → List ℕ → Type 0
-OpensWith role ways.Greeting used answer came = (used ≡ 8) × (answer ≡ []) × IsPrefix (hello (peer_number role)) came
+OpensWith role (ways.Greeting framing) used answer came = (used ≡ 8) × (answer ≡ []) × IsPrefix (hello (peer_number role)) came
 OpensWith role (ways.Serves path) used answer came = ServerAnswers (heads.Good used answer) came role path
 OpensWith role (ways.Asks addr start) used answer came = ClientAnswers (heads.Good used answer) came (key_of start) role
 
 -- what came begins with the peer's part, and that is right
 abbrev pub IsGood : Role → Way → List ℕ → Type 0
-IsGood role ways.Greeting came = IsPrefix (hello (peer_number role)) came
+IsGood role (ways.Greeting framing) came = IsPrefix (hello (peer_number role)) came
 IsGood role (ways.Serves path) came = (used : ℕ) × (answer : List ℕ) × ServerAnswers (heads.Good used answer) came role path
 IsGood role (ways.Asks addr start) came = (used : ℕ) × (answer : List ℕ) × ClientAnswers (heads.Good used answer) came (key_of start) role
 
 -- what came is wrong, whatever follows
 abbrev pub IsBad : Role → Way → List ℕ → Type 0
-IsBad role ways.Greeting came = IsBadGreeting (peer_number role) came
+IsBad role (ways.Greeting framing) came = IsBadGreeting (peer_number role) came
 IsBad role (ways.Serves path) came = (fault : HeadFault) × ServerAnswers (heads.Bad fault) came role path
 IsBad role (ways.Asks addr start) came = (fault : HeadFault) × ClientAnswers (heads.Bad fault) came (key_of start) role
 
 -- what is to be written before anything came
 abbrev pub Begins : Role → Way → List ℕ → Type 0
-Begins role ways.Greeting text = text ≡ hello (role_number role)
+Begins role (ways.Greeting framing) text = text ≡ hello (role_number role)
 Begins role (ways.Serves path) text = text ≡ []
 Begins role (ways.Asks addr start) text = IsRequestFor role (ways.Asks addr start) text
 
 -- all that is owed, once this came: the greeting, the response to a right request, the request
 abbrev pub Owes : Role → Way → List ℕ → List ℕ → Type 0
-Owes role ways.Greeting came owed = owed ≡ hello (role_number role)
+Owes role (ways.Greeting framing) came owed = owed ≡ hello (role_number role)
 Owes role (ways.Serves path) came owed = (used : ℕ) × ServerAnswers (heads.Good used owed) came role path
 Owes role (ways.Asks addr start) came owed = IsRequestFor role (ways.Asks addr start) owed
 

@@ -1,6 +1,7 @@
 //! Judging the bytes that came.
 ghost use Rattle.std.specs.Prelude.{◌≡◌, ◌↔◌, IsTrue};
 ghost use Rattle.sp_links.specs.Openings.{Judges, PartOf};
+ghost use Rattle.sp_base.specs.declared.framing.Framing.TheVariants as framings;
 ghost use Rattle.sp_links.specs.declared.way.Way.TheVariants as ways;
 
 use crate::way::{Way, key_of, nothing};
@@ -26,14 +27,15 @@ pub(crate) fn judge(alloc: Global, role: Role, way: &Way, came: &[u8]) -> PeerPa
     ensures { Judges role way.now result came.now }
 {
     match way {
-        Way::Greeting => judge_greeting(alloc, role, came),
+        Way::Greeting { framing: _ } => judge_greeting(alloc, role, came),
         Way::Serves { path } => part_of(server_head(alloc, came, role, path.as_slice())),
         Way::Asks { addr: _, start } => part_of(client_answer(alloc, came, &key_of(*start), role)),
     }
 }
 
+// The verdict is the same for every framing.
 fn judge_greeting(alloc: Global, role: Role, came: &[u8]) -> PeerPart
-    ensures { Judges role ways.Greeting result came.now }
+    ensures { Judges role (ways.Greeting framings.Tcp) result came.now }
 {
     let greeting = Greeting::new(role.peer());
     let wanted = greeting.hello();

@@ -1,7 +1,8 @@
-//! How a link begins, and the wire of a pipe, whatever its transport is: TCP, WebSocket, or two lanes within the process.
+//! How a link begins, and the wire of a pipe, whatever its transport is: TCP, IPC, WebSocket, or two lanes within the
+//! process.
 //!
-//! Over TCP each side writes its greeting and reads that of its peer. Over WebSocket the dialing side writes a request
-//! and reads the response, and the listening side reads the request and writes the response. `Way` says which of these
+//! Over TCP and IPC each side writes its greeting and reads that of its peer. Over WebSocket the dialing side writes a
+//! request and reads the response, and the listening side reads the request and writes the response. `Way` says which of these
 //! it is, `judge` what the bytes that came mean, however they are cut into pieces. `Opening` is a link that carries no
 //! messages yet: it writes what it owes so far, reads until the peer's part is whole or wrong, and writes what it owes
 //! for that. The bytes after the peer's part go to the wire.

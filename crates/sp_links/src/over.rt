@@ -3,13 +3,15 @@ ghost use Rattle.std.specs.Prelude.{◌≡◌, true, MatchResult};
 ghost use Rattle.sp_tcp.specs.TcpWires.{Met};
 ghost use Rattle.sp_links.specs.Going.{IsOpened};
 ghost use Rattle.sp_links.specs.EndWires.{IsNewTcpOver, IsNewWsOver, IsNewOver};
-ghost use Rattle.sp_links.specs.Opened.{IsBegun, side_of};
+ghost use Rattle.sp_links.specs.Opened.{IsBegun, side_of, framed_by};
+ghost use Rattle.sp_links.specs.Openings.{scheme_for};
+ghost use Rattle.sp_base.specs.SpStream.{framing_for};
 
 use crate::opened::OpenedWire;
 use crate::opening::Opening;
 use crate::way::{Way, seed_of};
 use crate::wire::EndWire;
-use sp_base::{Link, NoMemory, Role};
+use sp_base::{Framing, Link, NoMemory, Role};
 use sp_tcp::TcpWire;
 use sp_ws::{Side, WsWire};
 use std::alloc::Global;
@@ -19,6 +21,7 @@ impl<L: Link> EndWire<L> {
     /// read has at most `max` bytes. Fails only when out of memory, and then the link is returned unchanged.
     pub fn over(alloc: Global, opening: Opening<L>, max: u32) -> Result<EndWire<L>, (NoMemory, L)>
         requires opened { IsOpened L.seen opening }
+        requires scheme { (L.seen opening.link).scheme ≡ scheme_for opening.way }
         ensures { MatchResult result (λ w. IsNewOver L.seen max opening w) (λ e. e.1 ≡ opening.link) }
     {
         let Opening {
@@ -33,22 +36,33 @@ impl<L: Link> EndWire<L> {
         let Some(used) = used else { unreachable!() };
         let rest = &came.as_slice()[used..];
         match side_of(&way) {
-            None => over_tcp(alloc, link, rest, max),
+            None => over_tcp(alloc, link, rest, max, framed_by(&way)),
             Some(side) => over_ws(alloc, link, side, rest, max, role, way),
         }
     }
 }
 
-// The side of a WebSocket that was opened in this way; `None` for TCP.
+// The side of a WebSocket that was opened in this way; `None` for TCP and IPC.
 fn side_of(way: &Way) -> Option<Side>
     ensures { result ≡ side_of way.now }
 {
     match way {
-        Way::Greeting => None,
+        Way::Greeting { framing: _ } => None,
         Way::Serves { path: _ } => Some(Side::Server),
         Way::Asks { addr: _, start } => Some(Side::Client {
             seed: seed_of(*start),
         }),
+    }
+}
+
+// How messages are framed on a link that was opened in this way.
+fn framed_by(way: &Way) -> Framing
+    ensures { result ≡ framed_by way.now }
+{
+    match way {
+        Way::Greeting { framing } => *framing,
+        Way::Serves { path: _ } => Framing::Tcp,
+        Way::Asks { addr: _, start: _ } => Framing::Tcp,
     }
 }
 
@@ -57,12 +71,14 @@ fn over_tcp<L: Link>(
     link: L,
     rest: &[u8],
     max: u32,
+    framing: Framing,
 ) -> Result<EndWire<L>, (NoMemory, L)>
     requires is_open { (L.seen link).is_open ≡ true }
     requires met { Met rest.now (L.seen link) }
-    ensures { MatchResult result (λ w. IsNewTcpOver max (L.seen link) w) (λ e. e.1 ≡ link) }
+    requires framed { framing ≡ framing_for (L.seen link).scheme }
+    ensures { MatchResult result (λ w. IsNewTcpOver framing max (L.seen link) w) (λ e. e.1 ≡ link) }
 {
-    match TcpWire::new(alloc, link, rest, max) {
+    match TcpWire::new(alloc, link, rest, max, framing) {
         Ok(wire) => Ok(EndWire::Tcp(wire)),
         Err(refused) => Err(refused),
     }

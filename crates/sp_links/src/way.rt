@@ -6,7 +6,7 @@ ghost use Rattle.sp_links.specs.Openings.{CanBegin, Begins};
 ghost use Rattle.sp_links.specs.Origins.{serving, asking};
 ghost use Rattle.sp_links.specs.declared.way.Way.{Way as WayType};
 
-use sp_base::{Addr, Bytes, NoMemory, Role, next_value};
+use sp_base::{Addr, Bytes, Framing, NoMemory, Role, next_value};
 use sp_tcp::Greeting;
 use sp_upgrade::client_head;
 use std::alloc::Global;
@@ -14,8 +14,8 @@ use std::alloc::Global;
 /// How a link begins.
 #[derive(Debug, Drop)]
 pub enum Way {
-    /// Over TCP: both sides write a greeting.
-    Greeting,
+    /// Over TCP or IPC: both sides write a greeting.
+    Greeting { framing: Framing },
     /// Over WebSocket, listening: a request for this path is answered.
     Serves { path: Bytes },
     /// Over WebSocket, dialing: this address is asked, with a key that the generator makes from `start`.
@@ -28,7 +28,9 @@ impl Way {
         ensures { IfOk result (λ way. way ≡ serving addr.now) }
     {
         match addr {
-            Addr::Tcp { host: _, port: _ } => Ok(Way::Greeting),
+            Addr::Tcp { host: _, port: _ } => Ok(Way::Greeting {
+                framing: Framing::Tcp,
+            }),
             Addr::Ws {
                 host: _,
                 port: _,
@@ -36,7 +38,12 @@ impl Way {
             } => Ok(Way::Serves {
                 path: Bytes::from_slice(alloc, path.as_slice())?,
             }),
-            Addr::Inproc { name: _ } => Ok(Way::Greeting),
+            Addr::Inproc { name: _ } => Ok(Way::Greeting {
+                framing: Framing::Tcp,
+            }),
+            Addr::Ipc { path: _ } => Ok(Way::Greeting {
+                framing: Framing::Ipc,
+            }),
         }
     }
 
@@ -46,7 +53,9 @@ impl Way {
         ensures { IfOk result (λ way. way ≡ asking addr.now start) }
     {
         match addr {
-            Addr::Tcp { host: _, port: _ } => Ok(Way::Greeting),
+            Addr::Tcp { host: _, port: _ } => Ok(Way::Greeting {
+                framing: Framing::Tcp,
+            }),
             Addr::Ws {
                 host: _,
                 port: _,
@@ -55,7 +64,12 @@ impl Way {
                 addr: copy_of(alloc, addr)?,
                 start,
             }),
-            Addr::Inproc { name: _ } => Ok(Way::Greeting),
+            Addr::Inproc { name: _ } => Ok(Way::Greeting {
+                framing: Framing::Tcp,
+            }),
+            Addr::Ipc { path: _ } => Ok(Way::Greeting {
+                framing: Framing::Ipc,
+            }),
         }
     }
 
@@ -93,7 +107,7 @@ pub(crate) fn first_text(alloc: Global, role: Role, way: &Way) -> Result<Bytes, 
     ensures { IfOk result (λ text. Begins role way.now text) }
 {
     match way {
-        Way::Greeting => Bytes::from_slice(alloc, Greeting::new(role).hello()),
+        Way::Greeting { framing: _ } => Bytes::from_slice(alloc, Greeting::new(role).hello()),
         Way::Serves { path: _ } => Ok(nothing(alloc)),
         Way::Asks { addr, start } => client_head(alloc, &key_of(*start), addr, role),
     }
@@ -122,6 +136,9 @@ pub fn copy_of(alloc: Global, addr: &Addr) -> Result<Addr, NoMemory>
         }),
         Addr::Inproc { name } => Ok(Addr::Inproc {
             name: Bytes::from_slice(alloc, name.as_slice())?,
+        }),
+        Addr::Ipc { path } => Ok(Addr::Ipc {
+            path: Bytes::from_slice(alloc, path.as_slice())?,
         }),
     }
 }

@@ -1,4 +1,4 @@
-//! A wire of any of the three transports: each call is that of the wire inside.
+//! A wire of any of the four transports: each call is that of the wire inside.
 ghost use Rattle.std.specs.Prelude.{◌≡◌, true};
 ghost use Rattle.sp_msg.specs.Wires.{AfterPull, AfterRoom, AfterPut, AfterFlush, AfterShut, may_flush};
 ghost use Rattle.sp_links.specs.EndWires.{shown, Stands, Pulled, Roomed, Flushed, Puts, Shuts, IsOverLanes, IsLinkUnder};
@@ -10,10 +10,10 @@ use sp_msg::{Message, Room, Wire, WireFlush, WireIn};
 use sp_tcp::TcpWire;
 use std::sync::Wait;
 
-/// A wire of one of the transports (nng_tcp(7), nng_ws(7), nng_inproc(7)).
+/// A wire of one of the transports (nng_tcp(7), nng_ipc(7), nng_ws(7), nng_inproc(7)).
 #[derive(Drop)]
 pub enum EndWire<L: Link> {
-    /// SP over TCP.
+    /// SP over TCP or IPC.
     Tcp(TcpWire<L>),
     /// SP over WebSocket.
     Ws(OpenedWire<L>),

@@ -255,6 +255,8 @@ listens_on s e e' net net' reg reg' count (addrs.Tcp host port) (link, kept, sam
     listens_link s e e' net net' reg reg' count (addrs.Tcp host port) refl link kept same less n
 listens_on s e e' net net' reg reg' count (addrs.Ws host port path) (link, kept, same) less n =
     listens_link s e e' net net' reg reg' count (addrs.Ws host port path) refl link kept same less n
+listens_on s e e' net net' reg reg' count (addrs.Ipc path) (link, kept, same) less n =
+    listens_link s e e' net net' reg reg' count (addrs.Ipc path) refl link kept same less n
 listens_on s e e' net net' reg reg' count (addrs.Inproc name) ((is, (unlisted, more)), kept, same) less n =
     record {
       fresh = n.fresh;
@@ -286,6 +288,8 @@ refused_on s e e' net net' reg reg' count (addrs.Tcp host port) why (link, kept,
     refused_link s e e' net net' reg reg' count (addrs.Tcp host port) why link kept same n
 refused_on s e e' net net' reg reg' count (addrs.Ws host port path) why (link, kept, same) n =
     refused_link s e e' net net' reg reg' count (addrs.Ws host port path) why link kept same n
+refused_on s e e' net net' reg reg' count (addrs.Ipc path) why (link, kept, same) n =
+    refused_link s e e' net net' reg reg' count (addrs.Ipc path) why link kept same n
 refused_on s e e' net net' reg reg' count (addrs.Inproc name) errors.Fault (named, kept, same) n = elim named [ ]
 refused_on s e e' net net' reg reg' count (addrs.Inproc name) errors.InUse ((is, (listed, none)), kept, same) n =
     unchanged s e e' net net' reg reg' count (ends_of e' e.links e.names kept is) same none n
@@ -320,6 +324,8 @@ says_listen s e e' net net' reg reg' count (addrs.Tcp host port) ((l, is_addr, i
     (below e count n.counted less, (l, is_addr, ends_of e' _ _ is kept), refl, at.faults)
 says_listen s e e' net net' reg reg' count (addrs.Ws host port path) ((l, is_addr, is, at), kept, same) less n =
     (below e count n.counted less, (l, is_addr, ends_of e' _ _ is kept), refl, at.faults)
+says_listen s e e' net net' reg reg' count (addrs.Ipc path) ((l, is_addr, is, at), kept, same) less n =
+    (below e count n.counted less, (l, is_addr, ends_of e' _ _ is kept), refl, at.faults)
 says_listen s e e' net net' reg reg' count (addrs.Inproc name) ((is, (unlisted, more)), kept, same) less n =
     (below e count n.counted less, ((λ (h : IsAmong name e.names.names). unlisted_not name reg unlisted (subst (λ (ns : List (List ℕ)). IsAmong name ns) (sym n.names_are) h)), ends_of e' _ _ kept is), refl, (let q = ap (λ (m : NetView). m.faults) same in omega (arith, q)))
 
@@ -333,6 +339,8 @@ says_refused s e e' net net' reg reg' count (addrs.Tcp host port) why (link, kep
     says_refused_link s e e' net net' (addrs.Tcp host port) why refl link kept
 says_refused s e e' net net' reg reg' count (addrs.Ws host port path) why (link, kept, same) n =
     says_refused_link s e e' net net' (addrs.Ws host port path) why refl link kept
+says_refused s e e' net net' reg reg' count (addrs.Ipc path) why (link, kept, same) n =
+    says_refused_link s e e' net net' (addrs.Ipc path) why refl link kept
 says_refused s e e' net net' reg reg' count (addrs.Inproc name) errors.Fault (named, kept, same) n = elim named [ ]
 says_refused s e e' net net' reg reg' count (addrs.Inproc name) errors.InUse ((is, (listed, none)), kept, same) n =
     ((subst (λ (ns : List (List ℕ)). IsAmong name ns) n.names_are (listed_is name reg listed), ap (λ (m : NetView). m.faults) same), ends_of e' _ _ kept is, refl)
@@ -368,6 +376,7 @@ dials_link s e e' net reg count addr (d, f, is) kept less n =
 pub dials_on : {L : Type 0} (s : SingleView) (e e' : EndsView L) (net : NetView) (reg : Registry) (count : ℕ) (addr : Addr) → DialsAlso (Ok tt) addr e e' → count < 64 → IsNewNode s e net reg count → IsNewNode s e' net reg (count + 1)
 dials_on s e e' net reg count (addrs.Tcp host port) (link, kept) less n = dials_link s e e' net reg count (addrs.Tcp host port) link kept less n
 dials_on s e e' net reg count (addrs.Ws host port path) (link, kept) less n = dials_link s e e' net reg count (addrs.Ws host port path) link kept less n
+dials_on s e e' net reg count (addrs.Ipc path) (link, kept) less n = dials_link s e e' net reg count (addrs.Ipc path) link kept less n
 dials_on s e e' net reg count (addrs.Inproc name) ((c, f, is), kept) less n =
     record {
       fresh = n.fresh;
@@ -386,6 +395,7 @@ undialed e e' addr errors.NoMemory same = same
 pub undialed_same : {L : Type 0} (e e' : EndsView L) (addr : Addr) (why : EndError) → DialsAlso (Err why) addr e e' → e' ≡ e
 undialed_same e e' (addrs.Tcp host port) why (link, kept) = ends_of e' _ _ (undialed e.links e'.links (addrs.Tcp host port) why link) kept
 undialed_same e e' (addrs.Ws host port path) why (link, kept) = ends_of e' _ _ (undialed e.links e'.links (addrs.Ws host port path) why link) kept
+undialed_same e e' (addrs.Ipc path) why (link, kept) = ends_of e' _ _ (undialed e.links e'.links (addrs.Ipc path) why link) kept
 undialed_same e e' (addrs.Inproc name) errors.Fault (named, kept) = elim named [ ]
 undialed_same e e' (addrs.Inproc name) errors.InUse (named, kept) = elim named [ ]
 undialed_same e e' (addrs.Inproc name) errors.NoMemory (same, kept) = ends_of e' _ _ kept same
@@ -400,6 +410,8 @@ says_dial s e e' net count (addrs.Tcp host port) ((d, f, is), kept) may less cou
     (may, below e count counted less, (d, f, ends_of e' _ _ is kept), refl, refl)
 says_dial s e e' net count (addrs.Ws host port path) ((d, f, is), kept) may less counted =
     (may, below e count counted less, (d, f, ends_of e' _ _ is kept), refl, refl)
+says_dial s e e' net count (addrs.Ipc path) ((d, f, is), kept) may less counted =
+    (may, below e count counted less, (d, f, ends_of e' _ _ is kept), refl, refl)
 says_dial s e e' net count (addrs.Inproc name) ((c, f, is), kept) may less counted =
     (may, below e count counted less, (c, f, ends_of e' _ _ kept is), refl, refl)
 
@@ -408,9 +420,11 @@ says_undialed s e e' net addr errors.NoMemory d =
     (tt, ap (λ (x : EndsView _). view_of s x net) (undialed_same e e' addr errors.NoMemory d))
 says_undialed s e e' net (addrs.Tcp host port) errors.Fault (link, kept) = elim link [ ]
 says_undialed s e e' net (addrs.Ws host port path) errors.Fault (link, kept) = elim link [ ]
+says_undialed s e e' net (addrs.Ipc path) errors.Fault (link, kept) = elim link [ ]
 says_undialed s e e' net (addrs.Inproc name) errors.Fault (named, kept) = elim named [ ]
 says_undialed s e e' net (addrs.Tcp host port) errors.InUse (link, kept) = elim link [ ]
 says_undialed s e e' net (addrs.Ws host port path) errors.InUse (link, kept) = elim link [ ]
+says_undialed s e e' net (addrs.Ipc path) errors.InUse (link, kept) = elim link [ ]
 says_undialed s e e' net (addrs.Inproc name) errors.InUse (named, kept) = elim named [ ]
 
 -- ---- By the text of an address

@@ -33,6 +33,7 @@ OneName name old new =
 abbrev pub OneListen : {L : Type 0} → Addr → EndsView L → EndsView L → Type 0
 OneListen (addrs.Tcp host port) old new = OneListener (addrs.Tcp host port) old new
 OneListen (addrs.Ws host port path) old new = OneListener (addrs.Ws host port path) old new
+OneListen (addrs.Ipc path) old new = OneListener (addrs.Ipc path) old new
 OneListen (addrs.Inproc name) old new = OneName name old new
 
 -- the name is listened on within the process
@@ -74,6 +75,7 @@ OneCaller name old new =
 abbrev pub OneDial : {L : Type 0} → Addr → EndsView L → EndsView L → Type 0
 OneDial (addrs.Tcp host port) old new = OneDialer (addrs.Tcp host port) old new
 OneDial (addrs.Ws host port path) old new = OneDialer (addrs.Ws host port path) old new
+OneDial (addrs.Ipc path) old new = OneDialer (addrs.Ipc path) old new
 OneDial (addrs.Inproc name) old new = OneCaller name old new
 
 -- why there is none: its host is `*`, or the node has 64 ends

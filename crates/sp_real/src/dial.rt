@@ -1,7 +1,7 @@
-//! Connections that were begun and aren't established yet.
-use crate::link::waits;
+//! Connections that were begun and aren't established yet, and those to Unix sockets, which are made at once.
+use crate::stream::LinkStream;
 use crate::wake::{Mark, Wakes};
-use mio::net::TcpStream;
+use mio::net::{TcpStream, UnixStream};
 use std::alloc::Global;
 use std::collections::BTreeMap;
 use std::io;
@@ -15,10 +15,10 @@ const LIMIT: u64 = 5_000;
 /// The result of a dial.
 pub(crate) enum Dialed {
     /// The connection is established.
-    Made(TcpStream, Mark),
+    Made(LinkStream, Mark),
     /// It is under way.
     Begun,
-    /// The address has no listener.
+    /// The address has no listener, or its path isn't there.
     Refused,
     Failed(io::Error),
 }
@@ -134,7 +134,7 @@ impl Dials {
     fn look(&mut self, wakes: &Wakes, to: SocketAddr, dialing: Dialing) -> Dialed {
         let _ = dialing.mark.take();
         match is_made(&dialing.stream) {
-            Ok(true) => Dialed::Made(dialing.stream, dialing.mark),
+            Ok(true) => Dialed::Made(LinkStream::Tcp(dialing.stream), dialing.mark),
             Ok(false) => self.keep(wakes, to, dialing),
             Err(e) => {
                 let _ = wakes.unmark(dialing.mark);
@@ -172,5 +172,31 @@ impl Dials {
             }
         }
         None
+    }
+}
+
+// Connects to a Unix socket. Doesn't wait.
+fn connect<R: Net>(rt: &R, path: &[u8]) -> io::Result<UnixStream> {
+    match std::str::from_utf8(path) {
+        Ok(path) => UnixStream::connect(rt, path),
+        Err(_) => Err(io::Error::from(ErrorKind::InvalidInput)),
+    }
+}
+
+/// A connection to a Unix socket, which is made at once or not at all. It counts as refused where nobody listens, where
+/// the path isn't there, and where the listener has no room for one more.
+pub(crate) fn dial_unix<R: Net>(rt: &R, wakes: &Wakes, path: &[u8]) -> Dialed {
+    match connect(rt, path) {
+        Ok(mut stream) => {
+            let mark = wakes.mark(&mut stream);
+            Dialed::Made(LinkStream::Unix(stream), mark)
+        }
+        Err(e) => {
+            if e.kind() == ErrorKind::NotFound {
+                Dialed::Refused
+            } else {
+                not_made(e)
+            }
+        }
     }
 }

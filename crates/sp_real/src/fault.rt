@@ -27,8 +27,8 @@ impl fmt::Display for Reason {
     }
 }
 
-/// Where a listen, an accept or a dial failed, and why. Its text is like `tcp://127.0.0.1:80: permission denied`; a
-/// path is left out.
+/// Where a listen, an accept or a dial failed, and why. Its text is like `tcp://127.0.0.1:80: permission denied` or
+/// `ipc:///tmp/a: address in use`; the path of a WebSocket address is left out.
 #[derive(Clone, Copy, Debug)]
 pub struct NetFault {
     place: Place,
@@ -41,6 +41,34 @@ pub(crate) struct Place {
     pub(crate) scheme: Scheme,
     pub(crate) host: Host,
     pub(crate) port: u16,
+    /// For IPC; of other schemes it is empty.
+    pub(crate) path: SocketPath,
+}
+
+/// The maximum length of the path of a Unix socket, in bytes.
+const MOST_PATH: usize = 100;
+
+/// The path of a Unix socket.
+#[derive(Clone, Copy, Debug)]
+pub(crate) struct SocketPath {
+    bytes: [u8; MOST_PATH],
+    length: usize,
+}
+
+impl SocketPath {
+    /// This path, as far as there is room for it.
+    pub(crate) fn of(path: &[u8]) -> SocketPath {
+        let mut bytes = [0u8; MOST_PATH];
+        let length = path.len().min(MOST_PATH);
+        bytes[..length].copy_from_slice(&path[..length]);
+        SocketPath { bytes, length }
+    }
+
+    /// Its text.
+    pub(crate) fn as_str(&self) -> &str {
+        let path = self.bytes.get(..self.length).unwrap_or(b"");
+        std::str::from_utf8(path).unwrap_or("")
+    }
 }
 
 impl NetFault {
@@ -66,6 +94,11 @@ impl NetFault {
         self.place.port
     }
 
+    /// The path of an address of IPC; of another it is empty.
+    pub fn path(&self) -> &str {
+        self.place.path.as_str()
+    }
+
     /// Why it failed.
     pub fn reason(&self) -> Reason {
         self.reason
@@ -78,6 +111,7 @@ impl fmt::Display for Place {
             Scheme::Tcp => "tcp",
             Scheme::Ws => "ws",
             Scheme::Inproc => "inproc",
+            Scheme::Ipc => return write!(f, "ipc://{}", self.path.as_str()),
         };
         let port = self.port;
         match self.host {

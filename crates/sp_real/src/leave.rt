@@ -2,12 +2,11 @@
 //! sends discards what the peer hasn't taken.
 use crate::link::Counts;
 use crate::pace::RealPace;
+use crate::stream::LinkStream;
 use crate::wake::{Mark, Wakes};
-use mio::net::TcpStream;
 use std::alloc::Global;
 use std::collections::VecDeque;
-use std::io::{ErrorKind, Read};
-use std::net::Shutdown;
+use std::io::ErrorKind;
 use std::rt::Clock;
 
 /// How many milliseconds `finish` waits at most.
@@ -19,7 +18,7 @@ const READS: usize = 64;
 /// A link whose writing half is shut.
 #[derive(Drop)]
 struct Leaving {
-    stream: TcpStream,
+    stream: LinkStream,
     mark: Mark,
 }
 
@@ -102,7 +101,7 @@ impl Leavers {
     pub(crate) fn take_back(
         &mut self,
         wakes: &Wakes,
-        stream: TcpStream,
+        stream: LinkStream,
         mark: Mark,
         counts: &Counts,
     ) {
@@ -110,7 +109,7 @@ impl Leavers {
         if counts.ended || counts.faults > 0 {
             let _ = wakes.unmark(mark);
         } else {
-            let _ = stream.shutdown(Shutdown::Write);
+            stream.shut();
             mark.set();
             self.keep(wakes, Leaving { stream, mark });
         }

@@ -1,16 +1,15 @@
-//! A link over TCP.
+//! A link over TCP or a Unix socket.
 ghost use Rattle.std.specs.Prelude.{◌≡◌, ◌<◌, ◌-◌, ◌^◌, ◌⊎◌, ◌↔◌, IsTrue};
 ghost use Rattle.std.specs.IoError.{error_kind};
 ghost use Rattle.std.specs.declared.io.ErrorKind.TheVariants as kinds;
 ghost use Rattle.sp_base.specs.Steps.{IsNew};
 ghost use Rattle.sp_real.specs.Real.{counts_view};
 
+use crate::stream::LinkStream;
 use crate::wake::Mark;
-use mio::net::TcpStream;
 use sp_base::{Link, LinkRead, LinkWrite, Scheme};
 use std::io;
-use std::io::{ErrorKind, Read, Write};
-use std::net::Shutdown;
+use std::io::ErrorKind;
 
 /// What a link shows, except its content.
 #[derive(Clone, Copy, Debug, PartialEq, Eq)]
@@ -30,7 +29,7 @@ pub const TURN_BYTES: usize = 262_144;
 
 /// A connection that doesn't wait (nng_stream(5)). After each `TURN_BYTES` bytes it returns once that nothing is there.
 pub struct TcpLink {
-    stream: TcpStream,
+    stream: LinkStream,
     mark: Mark,
     pub(crate) counts: Counts,
     // The number of bytes that came since a read found nothing.
@@ -46,12 +45,12 @@ pub(crate) fn waits(e: &io::Error) -> bool
 
 impl TcpLink {
     /// A link whose small messages aren't held back.
-    pub(crate) fn new(stream: TcpStream, mark: Mark, place: u32, scheme: Scheme) -> TcpLink
+    pub(crate) fn new(stream: LinkStream, mark: Mark, place: u32, scheme: Scheme) -> TcpLink
         requires { place < 2 ^ 32 - 2 }
         ensures fresh { IsNew place (counts_view result.counts) }
         ensures scheme { result.counts.scheme ≡ scheme }
     {
-        let _ = stream.set_nodelay(true);
+        stream.hold_nothing();
         mark.set();
         let counts = Counts {
             place,
@@ -71,7 +70,7 @@ impl TcpLink {
     }
 
     /// Its parts.
-    pub(crate) fn into_parts(self) -> (TcpStream, Mark, Counts)
+    pub(crate) fn into_parts(self) -> (LinkStream, Mark, Counts)
         ensures { result.2 ≡ self.counts }
     {
         let TcpLink {
@@ -180,7 +179,7 @@ impl Link for TcpLink {
     }
 
     fn shut(&mut self) {
-        let _ = self.stream.shutdown(Shutdown::Write);
+        self.stream.shut();
         self.counts.is_open = false;
     }
 }

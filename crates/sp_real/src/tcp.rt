@@ -1,4 +1,4 @@
-//! TCP without waiting.
+//! TCP and Unix sockets without waiting.
 ghost use Rattle.std.specs.Prelude.{◌≡◌, ◌≢◌, ◌⊎◌, ◌↔◌, IsTrue, IsSome, Some};
 ghost use Rattle.std.specs.FinMap as map;
 ghost use Rattle.std.specs.IoError.{error_kind};
@@ -10,29 +10,39 @@ ghost use Rattle.sp_base.specs.declared.outside.Linked.TheVariants as linked;
 ghost use Rattle.sp_real.specs.Real.{link_view, real_net_view, unasked_net};
 
 use crate::back::ReturnedLinks;
-use crate::dial::{Dialed, Dials};
-use crate::fault::{NetFault, Place};
+use crate::dial::{Dialed, Dials, dial_unix};
+use crate::fault::{NetFault, Place, SocketPath};
 use crate::leave::Leavers;
 use crate::link::{TcpLink, waits};
 use crate::pace::RealPace;
+use crate::stream::LinkStream;
 use crate::wake::{ANY, Mark, Wakes};
 use mio::Interest;
-use mio::net::{TcpListener, TcpStream};
+use mio::net::{TcpListener, UnixListener};
 use sp_base::{Addr, Host, Linked, Listened, ListenerSchemes, Net, Scheme};
 use std::alloc::Global;
+use std::fs::Files;
 use std::io;
 use std::io::ErrorKind;
 use std::net::{IpAddr, Ipv4Addr, SocketAddr};
 use std::rt::Clock;
 
+/// A socket that listens.
+#[derive(Drop)]
+enum ListenSocket {
+    Tcp(TcpListener),
+    Unix(UnixListener),
+}
+
 /// A listener, and its place.
 #[derive(Drop)]
 struct Listener {
-    socket: TcpListener,
+    socket: ListenSocket,
     place: Place,
 }
 
-/// TCP (nng_tcp(7)). Listeners, links and dials don't wait. A connection that isn't established yet is kept by its
+/// TCP (nng_tcp(7)), and IPC over Unix sockets (nng_ipc(7)). The file of a Unix socket is made by its listen, which fails
+/// where the path is there already, and stays. Listeners, links and dials don't wait. A connection that isn't established yet is kept by its
 /// address until it is asked for again, and given up after five seconds of the pace. A link that was given back is
 /// closed at the next listen, accept or dial, or by `finish`.
 #[derive(Drop)]
@@ -98,15 +108,37 @@ impl<R: std::net::Net + Drop> TcpNet<R> {
         ensures { Some result.scheme ≡ map.get (listens_of self.now.schemes) at }
     {
         let scheme = self.schemes.scheme(at);
-        let (host, port) = match self.listeners.get(at as usize) {
-            Some(listener) => (listener.place.host, listener.place.port),
-            None => (Host::Any, 0),
+        let (host, port, path) = match self.listeners.get(at as usize) {
+            Some(listener) => (
+                listener.place.host,
+                listener.place.port,
+                listener.place.path,
+            ),
+            None => (Host::Any, 0, SocketPath::of(b"")),
         };
-        Place { scheme, host, port }
+        Place {
+            scheme,
+            host,
+            port,
+            path,
+        }
+    }
+
+    // Asks the machine for a connection.
+    fn asked(&mut self, addr: &Addr, place: Place) -> Dialed
+        ensures { self.new ≡ record self.old { dials = self.new.dials } }
+    {
+        if place.scheme == Scheme::Ipc {
+            return dial_unix(&self.rt, &self.wakes, path_of(addr));
+        }
+        match socket_addr(place) {
+            Ok(to) => self.dials.ask(&self.rt, &self.wakes, to),
+            Err(e) => Dialed::Failed(e),
+        }
     }
 
     // Makes a link of this connection, if a place is left for one.
-    fn hand_out(&mut self, stream: TcpStream, mark: Mark, place: Place) -> Linked<TcpLink>
+    fn hand_out(&mut self, stream: LinkStream, mark: Mark, place: Place) -> Linked<TcpLink>
         ensures not_begun { result ≢ linked.Begun }
         ensures shows { AfterLinking link_view result (Some place.scheme) (real_net_view self.old.schemes self.old.opened self.old.back.entries self.old.faults self.old.idles) (real_net_view self.new.schemes self.new.opened self.new.back.entries self.new.faults self.new.idles) }
     {
@@ -131,6 +163,20 @@ impl<R: std::net::Net + Drop> TcpNet<R> {
     }
 }
 
+// The path of an address of IPC; of another it is empty.
+fn path_of(addr: &Addr) -> &[u8] {
+    match addr {
+        Addr::Tcp { host: _, port: _ } => b"",
+        Addr::Ws {
+            host: _,
+            port: _,
+            path: _,
+        } => b"",
+        Addr::Inproc { name: _ } => b"",
+        Addr::Ipc { path } => path.as_slice(),
+    }
+}
+
 // The place of an address.
 fn place_of(addr: &Addr) -> Place
     ensures { result.scheme ≡ scheme_of addr.now }
@@ -143,17 +189,19 @@ fn place_of(addr: &Addr) -> Place
             path: _,
         } => (*host, *port),
         Addr::Inproc { name: _ } => (Host::Any, 0),
+        Addr::Ipc { path: _ } => (Host::Any, 0),
     };
     Place {
         scheme: addr.scheme(),
         host,
         port,
+        path: SocketPath::of(path_of(addr)),
     }
 }
 
-// The socket address of a place. A place within the process has none.
+// The socket address of a place. A place within the process or the machine has none.
 fn socket_addr(place: Place) -> io::Result<SocketAddr> {
-    if place.scheme == Scheme::Inproc {
+    if place.scheme == Scheme::Inproc || place.scheme == Scheme::Ipc {
         return Err(io::Error::from(ErrorKind::Unsupported));
     }
     let ip = match place.host {
@@ -163,24 +211,64 @@ fn socket_addr(place: Place) -> io::Result<SocketAddr> {
     Ok(SocketAddr::new(IpAddr::V4(ip), place.port))
 }
 
-// A listener whose socket ends rests.
-fn bind<R: std::net::Net>(rt: &R, wakes: &Wakes, place: Place) -> io::Result<Listener> {
+// A socket that listens on TCP and ends rests.
+fn bind_tcp<R: std::net::Net>(rt: &R, wakes: &Wakes, place: Place) -> io::Result<ListenSocket> {
     let mut socket = TcpListener::bind(rt, socket_addr(place)?)?;
     let _ = wakes
         .registry
         .register(&mut socket, ANY, Interest::READABLE);
+    Ok(ListenSocket::Tcp(socket))
+}
+
+// A Unix socket that listens and ends rests. Makes the file, which must not be there yet.
+fn bind_unix<R: std::net::Net + Files>(
+    rt: &R,
+    wakes: &Wakes,
+    path: &[u8],
+) -> io::Result<ListenSocket> {
+    let Ok(path) = std::str::from_utf8(path) else {
+        return Err(io::Error::from(ErrorKind::InvalidInput));
+    };
+    let mut socket = UnixListener::bind(rt, path)?;
+    let _ = wakes
+        .registry
+        .register(&mut socket, ANY, Interest::READABLE);
+    Ok(ListenSocket::Unix(socket))
+}
+
+// A listener whose socket ends rests.
+fn bind<R: std::net::Net + Files>(
+    rt: &R,
+    wakes: &Wakes,
+    addr: &Addr,
+    place: Place,
+) -> io::Result<Listener> {
+    let socket = if place.scheme == Scheme::Ipc {
+        bind_unix(rt, wakes, path_of(addr))?
+    } else {
+        bind_tcp(rt, wakes, place)?
+    };
     Ok(Listener { socket, place })
 }
 
 // Takes a connection of a listener. The new socket is ready to write, which ends the next rest. So the connections
 // after this one are asked for though the machine doesn't report them.
-fn take_one(wakes: &Wakes, listeners: &[Listener], at: u32) -> io::Result<(TcpStream, Mark)> {
+fn take_one(wakes: &Wakes, listeners: &[Listener], at: u32) -> io::Result<(LinkStream, Mark)> {
     let Some(listener) = listeners.get(at as usize) else {
         return Err(io::Error::from(ErrorKind::NotFound));
     };
-    let (mut stream, _) = listener.socket.accept()?;
-    let mark = wakes.mark(&mut stream);
-    Ok((stream, mark))
+    match &listener.socket {
+        ListenSocket::Tcp(socket) => {
+            let (mut stream, _) = socket.accept()?;
+            let mark = wakes.mark(&mut stream);
+            Ok((LinkStream::Tcp(stream), mark))
+        }
+        ListenSocket::Unix(socket) => {
+            let (mut stream, _) = socket.accept()?;
+            let mark = wakes.mark(&mut stream);
+            Ok((LinkStream::Unix(stream), mark))
+        }
+    }
 }
 
 // Returns whether there is no connection yet, or one that came is gone again.
@@ -190,7 +278,7 @@ fn nobody_came(e: &io::Error) -> bool
     waits(e) || e.kind() == ErrorKind::ConnectionAborted
 }
 
-impl<R: std::net::Net + Drop> Net for TcpNet<R> {
+impl<R: std::net::Net + Files + Drop> Net for TcpNet<R> {
     type L = TcpLink;
 
     ghost seen = { λ n. real_net_view n.schemes n.opened n.back.entries n.faults n.idles };
@@ -198,7 +286,7 @@ impl<R: std::net::Net + Drop> Net for TcpNet<R> {
     fn listen(&mut self, addr: &Addr) -> Listened {
         self.close_left();
         let place = place_of(addr);
-        let error = match bind(&self.rt, &self.wakes, place) {
+        let error = match bind(&self.rt, &self.wakes, addr, place) {
             Ok(listener) => {
                 if self.listeners.push(listener).is_ok() {
                     if let Ok(number) = self.schemes.add(addr.scheme()) {
@@ -234,11 +322,7 @@ impl<R: std::net::Net + Drop> Net for TcpNet<R> {
     fn dial(&mut self, addr: &Addr) -> Linked<TcpLink> {
         self.close_left();
         let place = place_of(addr);
-        let dialed = match socket_addr(place) {
-            Ok(to) => self.dials.ask(&self.rt, &self.wakes, to),
-            Err(e) => Dialed::Failed(e),
-        };
-        match dialed {
+        match self.asked(addr, place) {
             Dialed::Made(stream, mark) => self.hand_out(stream, mark, place),
             Dialed::Begun => {
                 self.idles = self.idles.saturating_add(1);

@@ -8,7 +8,8 @@ use Rattle.sp_base.specs.SpTcp.{frame, frames}
 use Rattle.sp_msg.specs.Views.{MessageView, wire_text}
 use Rattle.sp_tcp.specs.Views.{WriteStageView}
 use Rattle.sp_tcp.specs.Stages.{added, gathered}
-use Rattle.sp_tcp.specs.Marked.{marked, marked_all, head_of}
+use Rattle.sp_base.specs.SpIpc.{marked, marked_all}
+use Rattle.sp_tcp.specs.Marked.{head_of}
 use Rattle.sp_tcp.specs.Outlets.{SentWithin, Passed, IsLongRest}
 use Rattle.sp_tcp.proofs.Buffers.{take_apart}
 use Rattle.sp_tcp.proofs.MarkedFrames.{marked-nil, marked-cons, marked-append, marked-is, length-marked}

@@ -5,7 +5,8 @@ use Rattle.sp_base.specs.SpTcp.{frame}
 use Rattle.sp_tcp.specs.declared.reader.Prefix.{Prefix}
 use Rattle.sp_tcp.specs.declared.reader.Prefix.TheVariants as f
 use Rattle.sp_tcp.specs.Readings.{PrefixIs}
-use Rattle.sp_tcp.specs.Marked.{IsMarkedPart, IsMarkedBad, MarkedPrefixIs}
+use Rattle.sp_base.specs.SpIpc.{IsMarkedPart, IsMarkedBad}
+use Rattle.sp_tcp.specs.Marked.{MarkedPrefixIs}
 use Rattle.sp_tcp.proofs.PrefixPieces.{part_other}
 use Rattle.sp_tcp.proofs.MarkedFrames.{marked-is}
 

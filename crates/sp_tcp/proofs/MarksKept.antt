@@ -14,7 +14,8 @@ use Rattle.sp_msg.specs.Links.{ReadCounts, WriteCounts}
 use Rattle.sp_tcp.specs.Inlets.{PullResult}
 use Rattle.sp_tcp.specs.Outlets.{FlushResult}
 use Rattle.sp_tcp.specs.TcpWires.{MarksHold}
-use Rattle.sp_tcp.proofs.MarkedFrames.{plain_part, plain_bad}
+use Rattle.sp_base.specs.SpStream.{mark_of}
+use Rattle.sp_base.specs.declared.framing.Framing.{Framing}
 
 apart : (b : Bool) → b ≡ false → b ≡ true → ⊥
 apart b e f = cc
@@ -24,63 +25,63 @@ never e = cc
 
 -- ---- pulls
 
-pub pulled_marks : (result : WireIn) (max : ℕ) (l l2 : LinkView) (u u2 all : List ℕ) (k : WireMarks) → k.is_open ≡ true → MarksHold max l u k → ReadCounts l l2 → l2.is_open ≡ l.is_open → PullResult [] max result all u2 l l2 → MarksHold max l2 u2 (marks_pulled result k)
-pulled_marks (ins.Message m) max l l2 u u2 all k o h c same a = record {
+pub pulled_marks : (f : Framing) (result : WireIn) (max : ℕ) (l l2 : LinkView) (u u2 all : List ℕ) (k : WireMarks) → k.is_open ≡ true → MarksHold f max l u k → ReadCounts l l2 → l2.is_open ≡ l.is_open → PullResult (mark_of f) max result all u2 l l2 → MarksHold f max l2 u2 (marks_pulled result k)
+pulled_marks f (ins.Message m) max l l2 u u2 all k o h c same a = record {
   link_open = (λ e. same ∙ h.link_open e);
   going = h.going;
   at_end = (λ e. absurd (apart k.ended (h.going o).0 e));
-  too_long = (λ e. absurd (apart k.malformed (h.going o).1 e));
+  bad = (λ e. absurd (apart k.malformed (h.going o).1 e));
   faults = omega (arith, h.faults, c.faults);
   idles = omega (arith, h.idles, c.idles);
   stalls = omega (arith, h.stalls, c.stalls);
   refusals = h.refusals;
 }
-pulled_marks ins.NotYet max l l2 u u2 all k o h c same a = record {
+pulled_marks f ins.NotYet max l l2 u u2 all k o h c same a = record {
   link_open = (λ e. same ∙ h.link_open e);
   going = h.going;
   at_end = (λ e. absurd (apart k.ended (h.going o).0 e));
-  too_long = (λ e. absurd (apart k.malformed (h.going o).1 e));
+  bad = (λ e. absurd (apart k.malformed (h.going o).1 e));
   faults = omega (arith, h.faults, c.faults);
   idles = omega (arith, h.idles, a.2);
   stalls = omega (arith, h.stalls, c.stalls);
   refusals = h.refusals;
 }
-pulled_marks ins.Ended max l l2 u u2 all k o h c same a = record {
+pulled_marks f ins.Ended max l l2 u u2 all k o h c same a = record {
   link_open = (λ e. absurd (never e));
   going = (λ e. absurd (never e));
-  at_end = (λ e. (a.2, plain_part max u2 a.1));
-  too_long = (λ e. absurd (apart k.malformed (h.going o).1 e));
+  at_end = (λ e. (a.2, a.1));
+  bad = (λ e. absurd (apart k.malformed (h.going o).1 e));
   faults = omega (arith, h.faults, c.faults);
   idles = omega (arith, h.idles, c.idles);
   stalls = omega (arith, h.stalls, c.stalls);
   refusals = h.refusals;
 }
-pulled_marks ins.Malformed max l l2 u u2 all k o h c same a = record {
+pulled_marks f ins.Malformed max l l2 u u2 all k o h c same a = record {
   link_open = (λ e. absurd (never e));
   going = (λ e. absurd (never e));
   at_end = (λ e. absurd (apart k.ended (h.going o).0 e));
-  too_long = (λ e. plain_bad max u2 a.1);
+  bad = (λ e. a.1);
   faults = omega (arith, h.faults, c.faults);
   idles = omega (arith, h.idles, c.idles);
   stalls = omega (arith, h.stalls, c.stalls);
   refusals = h.refusals;
 }
-pulled_marks ins.Failed max l l2 u u2 all k o h c same a = record {
+pulled_marks f ins.Failed max l l2 u u2 all k o h c same a = record {
   link_open = (λ e. absurd (never e));
   going = (λ e. absurd (never e));
   at_end = (λ e. absurd (apart k.ended (h.going o).0 e));
-  too_long = (λ e. absurd (apart k.malformed (h.going o).1 e));
+  bad = (λ e. absurd (apart k.malformed (h.going o).1 e));
   faults = omega (arith, h.faults, a.2);
   idles = omega (arith, h.idles, c.idles);
   stalls = omega (arith, h.stalls, c.stalls);
   refusals = h.refusals;
 }
-pulled_marks ins.Refused max l l2 u u2 all k o h c same a = absurd a
-pulled_marks ins.NoMemory max l l2 u u2 all k o h c same a = record {
+pulled_marks f ins.Refused max l l2 u u2 all k o h c same a = absurd a
+pulled_marks f ins.NoMemory max l l2 u u2 all k o h c same a = record {
   link_open = (λ e. absurd (never e));
   going = (λ e. absurd (never e));
   at_end = (λ e. absurd (apart k.ended (h.going o).0 e));
-  too_long = (λ e. absurd (apart k.malformed (h.going o).1 e));
+  bad = (λ e. absurd (apart k.malformed (h.going o).1 e));
   faults = omega (arith, h.faults, c.faults);
   idles = omega (arith, h.idles, c.idles);
   stalls = omega (arith, h.stalls, c.stalls);
@@ -99,48 +100,48 @@ ready_pulled ins.NoMemory k = refl
 -- ---- writes
 
 -- after writes, with this room and this count of `Full` results
-wrote_marks : (max : ℕ) (l l2 : LinkView) (u : List ℕ) (k : WireMarks) → MarksHold max l u k → WriteCounts l l2 → l2.is_open ≡ l.is_open → (is_ready : Bool) (fulls : ℕ) → MarksHold max l2 u (record k { is_ready = is_ready; fulls = fulls })
-wrote_marks max l l2 u k h c same is_ready fulls = record {
+wrote_marks : (f : Framing) (max : ℕ) (l l2 : LinkView) (u : List ℕ) (k : WireMarks) → MarksHold f max l u k → WriteCounts l l2 → l2.is_open ≡ l.is_open → (is_ready : Bool) (fulls : ℕ) → MarksHold f max l2 u (record k { is_ready = is_ready; fulls = fulls })
+wrote_marks f max l l2 u k h c same is_ready fulls = record {
   link_open = (λ e. same ∙ h.link_open e);
   going = h.going;
   at_end = (λ e. (c.ended ∙ (h.at_end e).0, (h.at_end e).1));
-  too_long = h.too_long;
+  bad = h.bad;
   faults = omega (arith, h.faults, c.faults);
   idles = omega (arith, h.idles, c.idles);
   stalls = omega (arith, h.stalls, c.stalls);
   refusals = h.refusals;
 }
 
-failed_marks : (max : ℕ) (l l2 : LinkView) (u : List ℕ) (k : WireMarks) → MarksHold max l u k → WriteCounts l l2 → Rose l.faults l2.faults → MarksHold max l2 u (record k { is_open = false; faults = one_more k.faults })
-failed_marks max l l2 u k h c rose = record {
+failed_marks : (f : Framing) (max : ℕ) (l l2 : LinkView) (u : List ℕ) (k : WireMarks) → MarksHold f max l u k → WriteCounts l l2 → Rose l.faults l2.faults → MarksHold f max l2 u (record k { is_open = false; faults = one_more k.faults })
+failed_marks f max l l2 u k h c rose = record {
   link_open = (λ e. absurd (never e));
   going = (λ e. absurd (never e));
   at_end = (λ e. (c.ended ∙ (h.at_end e).0, (h.at_end e).1));
-  too_long = h.too_long;
+  bad = h.bad;
   faults = omega (arith, h.faults, rose);
   idles = omega (arith, h.idles, c.idles);
   stalls = omega (arith, h.stalls, c.stalls);
   refusals = h.refusals;
 }
 
-stalled_marks : (max : ℕ) (l l2 : LinkView) (u : List ℕ) (k : WireMarks) → MarksHold max l u k → WriteCounts l l2 → l2.is_open ≡ l.is_open → Rose l.stalls l2.stalls → MarksHold max l2 u (record k { stalls = one_more k.stalls })
-stalled_marks max l l2 u k h c same rose = record {
+stalled_marks : (f : Framing) (max : ℕ) (l l2 : LinkView) (u : List ℕ) (k : WireMarks) → MarksHold f max l u k → WriteCounts l l2 → l2.is_open ≡ l.is_open → Rose l.stalls l2.stalls → MarksHold f max l2 u (record k { stalls = one_more k.stalls })
+stalled_marks f max l l2 u k h c same rose = record {
   link_open = (λ e. same ∙ h.link_open e);
   going = h.going;
   at_end = (λ e. (c.ended ∙ (h.at_end e).0, (h.at_end e).1));
-  too_long = h.too_long;
+  bad = h.bad;
   faults = omega (arith, h.faults, c.faults);
   idles = omega (arith, h.idles, c.idles);
   stalls = omega (arith, h.stalls, rose);
   refusals = h.refusals;
 }
 
-pub flushed_marks : (result : WireFlush) (max : ℕ) (l l2 : LinkView) (u : List ℕ) (w : List (List ℕ)) (k : WireMarks) → MarksHold max l u k → WriteCounts l l2 → l2.is_open ≡ l.is_open → FlushResult result w l l2 → MarksHold max l2 u (marks_flushed result k)
-flushed_marks flushes.Empty max l l2 u w k h c same a = wrote_marks max l l2 u k h c same k.is_ready k.fulls
-flushed_marks flushes.NotYet max l l2 u w k h c same a = stalled_marks max l l2 u k h c same a.1
-flushed_marks flushes.Failed max l l2 u w k h c same a = failed_marks max l l2 u k h c a.1
-flushed_marks flushes.Refused max l l2 u w k h c same a = absurd a
-flushed_marks flushes.NoMemory max l l2 u w k h c same a = absurd a
+pub flushed_marks : (f : Framing) (result : WireFlush) (max : ℕ) (l l2 : LinkView) (u : List ℕ) (w : List (List ℕ)) (k : WireMarks) → MarksHold f max l u k → WriteCounts l l2 → l2.is_open ≡ l.is_open → FlushResult result w l l2 → MarksHold f max l2 u (marks_flushed result k)
+flushed_marks f flushes.Empty max l l2 u w k h c same a = wrote_marks f max l l2 u k h c same k.is_ready k.fulls
+flushed_marks f flushes.NotYet max l l2 u w k h c same a = stalled_marks f max l l2 u k h c same a.1
+flushed_marks f flushes.Failed max l l2 u w k h c same a = failed_marks f max l l2 u k h c a.1
+flushed_marks f flushes.Refused max l l2 u w k h c same a = absurd a
+flushed_marks f flushes.NoMemory max l l2 u w k h c same a = absurd a
 
 pub ready_flushed : (result : WireFlush) (k : WireMarks) → (marks_flushed result k).is_ready ≡ k.is_ready
 ready_flushed flushes.Empty k = refl
@@ -157,12 +158,12 @@ RoomFacts rooms.Failed waits l l2 = Rose l.faults l2.faults
 RoomFacts rooms.Refused waits l l2 = ⊥
 RoomFacts rooms.NoMemory waits l l2 = ⊥
 
-pub roomed_marks : (room : Room) (max : ℕ) (l l2 : LinkView) (u : List ℕ) (waits : ℕ) (k : WireMarks) → MarksHold max l u k → WriteCounts l l2 → l2.is_open ≡ l.is_open → RoomFacts room waits l l2 → MarksHold max l2 u (marks_roomed room k)
-roomed_marks rooms.Yes max l l2 u waits k h c same f = wrote_marks max l l2 u k h c same true k.fulls
-roomed_marks rooms.Full max l l2 u waits k h c same f = wrote_marks max l l2 u k h c same k.is_ready (one_more k.fulls)
-roomed_marks rooms.Failed max l l2 u waits k h c same f = failed_marks max l l2 u k h c f
-roomed_marks rooms.Refused max l l2 u waits k h c same f = absurd f
-roomed_marks rooms.NoMemory max l l2 u waits k h c same f = absurd f
+pub roomed_marks : (f : Framing) (room : Room) (max : ℕ) (l l2 : LinkView) (u : List ℕ) (waits : ℕ) (k : WireMarks) → MarksHold f max l u k → WriteCounts l l2 → l2.is_open ≡ l.is_open → RoomFacts room waits l l2 → MarksHold f max l2 u (marks_roomed room k)
+roomed_marks f rooms.Yes max l l2 u waits k h c same why = wrote_marks f max l l2 u k h c same true k.fulls
+roomed_marks f rooms.Full max l l2 u waits k h c same why = wrote_marks f max l l2 u k h c same k.is_ready (one_more k.fulls)
+roomed_marks f rooms.Failed max l l2 u waits k h c same why = failed_marks f max l l2 u k h c why
+roomed_marks f rooms.Refused max l l2 u waits k h c same why = absurd why
+roomed_marks f rooms.NoMemory max l l2 u waits k h c same why = absurd why
 
 -- a wire that is ready has room for one more
 pub ready_roomed : (room : Room) (l l2 : LinkView) (waits : ℕ) (k : WireMarks) → RoomFacts room waits l l2 → (k.is_ready ≡ true → waits < 16) → (marks_roomed room k).is_ready ≡ true → waits < 16
@@ -175,24 +176,24 @@ ready_roomed rooms.NoMemory l l2 waits k f h e = absurd f
 -- ---- calls that write nothing
 
 -- whether room was found and isn't used yet
-pub ready_marks : (max : ℕ) (l : LinkView) (u : List ℕ) (k : WireMarks) (is_ready : Bool) → MarksHold max l u k → MarksHold max l u (record k { is_ready = is_ready })
-ready_marks max l u k is_ready h = record {
+pub ready_marks : (f : Framing) (max : ℕ) (l : LinkView) (u : List ℕ) (k : WireMarks) (is_ready : Bool) → MarksHold f max l u k → MarksHold f max l u (record k { is_ready = is_ready })
+ready_marks f max l u k is_ready h = record {
   link_open = h.link_open;
   going = h.going;
   at_end = h.at_end;
-  too_long = h.too_long;
+  bad = h.bad;
   faults = h.faults;
   idles = h.idles;
   stalls = h.stalls;
   refusals = h.refusals;
 }
 
-pub shut_marks : (max : ℕ) (l : LinkView) (u : List ℕ) (k : WireMarks) → MarksHold max l u k → MarksHold max (record l { is_open = false }) u (marks_shut k)
-shut_marks max l u k h = record {
+pub shut_marks : (f : Framing) (max : ℕ) (l : LinkView) (u : List ℕ) (k : WireMarks) → MarksHold f max l u k → MarksHold f max (record l { is_open = false }) u (marks_shut k)
+shut_marks f max l u k h = record {
   link_open = (λ e. absurd (never e));
   going = (λ e. absurd (never e));
   at_end = h.at_end;
-  too_long = h.too_long;
+  bad = h.bad;
   faults = h.faults;
   idles = h.idles;
   stalls = h.stalls;

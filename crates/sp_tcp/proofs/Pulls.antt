@@ -7,7 +7,8 @@ use Rattle.sp_base.specs.Steps.{Came, Quiet}
 use Rattle.sp_msg.specs.declared.wire.WireIn.{WireIn}
 use Rattle.sp_msg.specs.Links.{ReadCounts}
 use Rattle.sp_tcp.specs.Inlets.{PullResult, PulledFrom}
-use Rattle.sp_tcp.specs.Marked.{head_of, IsMarkedPart}
+use Rattle.sp_base.specs.SpIpc.{IsMarkedPart}
+use Rattle.sp_tcp.specs.Marked.{head_of}
 
 pub record PullGoing (mark : List ℕ) (max : ℕ) (old now : List ℕ) (link link' : LinkView) : Type 0 where
   pub piece : List ℕ

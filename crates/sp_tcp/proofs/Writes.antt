@@ -9,7 +9,8 @@ use Rattle.sp_base.specs.declared.outside.LinkWrite.TheVariants as writes
 use Rattle.sp_msg.specs.Views.{MessageView, wire_text}
 use Rattle.sp_tcp.specs.Views.{OutletView}
 use Rattle.sp_msg.specs.Links.{WriteCounts}
-use Rattle.sp_tcp.specs.Marked.{marked, marked_all, IsMark}
+use Rattle.sp_base.specs.SpIpc.{marked, marked_all}
+use Rattle.sp_tcp.specs.Marked.{IsMark}
 use Rattle.sp_tcp.specs.Outlets.{SentWithin, IsLongRest, Passed, WrotePrefix, Wrote, WrotePiece}
 use Rattle.sp_tcp.proofs.Buffers.{take_apart}
 use Rattle.sp_tcp.proofs.Pulls.{grown-nil, grown-grown}

@@ -9,7 +9,7 @@ use Rattle.sp_base.specs.declared.outside.LinkRead.TheVariants as reads
 use Rattle.sp_msg.specs.declared.wire.WireIn.{WireIn}
 use Rattle.sp_msg.specs.declared.wire.WireIn.TheVariants as ins
 use Rattle.sp_msg.specs.Links.{ReadCounts}
-use Rattle.sp_tcp.specs.Marked.{marked, IsMarkedPart, IsMarkedBad}
+use Rattle.sp_base.specs.SpIpc.{marked, IsMarkedPart, IsMarkedBad}
 use Rattle.sp_tcp.specs.declared.inlet.TakenFrame.{TakenFrame}
 use Rattle.sp_tcp.specs.declared.inlet.TakenFrame.TheVariants as t
 

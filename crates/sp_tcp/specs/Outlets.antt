@@ -1,6 +1,7 @@
 -- What writing does to what waits.
 use Rattle.std.specs.Prelude.{◌≡◌, ◌≤◌, ◌<◌, ◌+◌, ◌^◌, ◌++◌, ◌⊎◌, ℕ, List, [], ◌∷◌, length, take, drop}
-use Rattle.sp_tcp.specs.Marked.{marked, marked_all, head_of}
+use Rattle.sp_base.specs.SpIpc.{marked, marked_all}
+use Rattle.sp_tcp.specs.Marked.{head_of}
 use Rattle.sp_base.specs.Outside.{Rose, IsPrefix}
 use Rattle.sp_base.specs.Views.{LinkView}
 use Rattle.sp_base.specs.Steps.{Went, Quiet, AfterWrite}

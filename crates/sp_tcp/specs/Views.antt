@@ -1,6 +1,7 @@
 -- What the values of this crate show.
 use Rattle.std.specs.Prelude.{ℕ, Bool, List}
 use Rattle.sp_base.specs.Views.{LinkView}
+use Rattle.sp_base.specs.declared.framing.Framing.{Framing}
 use Rattle.sp_base.specs.declared.role.Role.{Role}
 use Rattle.sp_msg.specs.Views.{WireView}
 
@@ -25,8 +26,9 @@ pub record WriteStageView : Type 0 where
   pub bytes : List ℕ
   pub most : ℕ
 
--- what the wire shows, what its link shows, and the maximum length of a body
+-- what the wire shows, what its link shows, the maximum length of a body, and how messages are framed
 pub record TcpView : Type 0 where
   pub wire : WireView
   pub link : LinkView
   pub max : ℕ
+  pub framing : Framing

@@ -1,7 +1,7 @@
-//! SP over TCP (the nanomsg document "TCP mapping for scalability protocols"): greetings, and a stream of messages each
-//! way. Each message is its size in 64 bits, big-endian, and that many bytes. Where what came begins with a size above
-//! the limit as a pull begins, nothing is asked of the link. The read that brings such a size may bring bytes of the
-//! body with it.
+//! SP over TCP (the nanomsg document "TCP mapping for scalability protocols") and SP over IPC (nng_ipc(7)): greetings,
+//! and a stream of messages each way. Each message is its size in 64 bits, big-endian, and that many bytes; over IPC the
+//! byte 1 comes before each size. Where what came begins with a size above the limit, or over IPC with another byte, as
+//! a pull begins, nothing is asked of the link. The read that brings such a size may bring bytes of the body with it.
 //!
 //! `TcpWire` owns a link from the greetings on. Reading: the inlet reads what the link gives into one buffer, and takes
 //! message after message out of it before it asks the link again. A read asks for at least 16 KiB where part of a

@@ -2,7 +2,8 @@
 ghost use Rattle.std.specs.Prelude.{◌≡◌, ◌≤◌, ◌<◌, ◌+◌, ◌-◌, ◌^◌, ◌++◌, ◌∷◌, ℕ, List, [], true, take, drop, length, map, IfOk};
 ghost use Rattle.std.specs.VecDeque.{deque_capacity};
 ghost use Rattle.sp_base.specs.SpTcp.{frame};
-ghost use Rattle.sp_tcp.specs.Marked.{marked, marked_all, head_of, IsMark};
+ghost use Rattle.sp_base.specs.SpIpc.{marked, marked_all};
+ghost use Rattle.sp_tcp.specs.Marked.{head_of, IsMark};
 ghost use Rattle.sp_msg.specs.Views.{wire_text};
 ghost use Rattle.sp_tcp.specs.Stages.{added, gathered};
 ghost use Rattle.sp_msg.specs.Wires.{RoomAfter};

@@ -61,3 +61,4 @@ IsDialed (addrs.Ws (hosts.V4 a b c d) port path) = Unit {0}
 IsDialed (addrs.Ws hosts.Any port path) = ⊥
 IsDialed (addrs.Tcp host port) = ⊥
 IsDialed (addrs.Inproc name) = ⊥
+IsDialed (addrs.Ipc path) = ⊥

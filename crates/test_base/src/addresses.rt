@@ -74,6 +74,36 @@ fn names_within_the_process_are_read(rt: HostRuntime) {
     check_rows(&rt, rt.alloc(), NAMES);
 }
 
+// The last two paths have 100 letters and 101.
+const OF_IPC: &str = "\
+ipc:///tmp/a | Ok(Ipc { path: Bytes { items: [47, 116, 109, 112, 47, 97] } })
+ipc://a | Ok(Ipc { path: Bytes { items: [97] } })
+ipc:// | Err(Fault { at: 6 })
+ipc:/a | Err(Fault { at: 5 })
+ipc: | Err(Fault { at: 4 })
+ip | Err(Fault { at: 2 })
+i | Err(Fault { at: 1 })
+in | Err(Fault { at: 2 })
+ix | Err(Fault { at: 1 })
+ipc://a b | Err(Fault { at: 7 })
+IPC://a | Err(Fault { at: 0 })
+ipc://\
+    aaaaaaaaaaaaaaaaaaaaaaaaaaaaaaaaaaaaaaaaaaaaaaaaaa\
+    aaaaaaaaaaaaaaaaaaaaaaaaaaaaaaaaaaaaaaaaaaaaaaaaaa | \
+    Ok(Ipc { path: Bytes { items: [\
+    97, 97, 97, 97, 97, 97, 97, 97, 97, 97, 97, 97, 97, 97, 97, 97, 97, 97, 97, 97, 97, 97, 97, 97, 97, 97, \
+    97, 97, 97, 97, 97, 97, 97, 97, 97, 97, 97, 97, 97, 97, 97, 97, 97, 97, 97, 97, 97, 97, 97, 97, 97, 97, \
+    97, 97, 97, 97, 97, 97, 97, 97, 97, 97, 97, 97, 97, 97, 97, 97, 97, 97, 97, 97, 97, 97, 97, 97, 97, 97, \
+    97, 97, 97, 97, 97, 97, 97, 97, 97, 97, 97, 97, 97, 97, 97, 97, 97, 97, 97, 97, 97, 97] } })
+ipc://\
+    aaaaaaaaaaaaaaaaaaaaaaaaaaaaaaaaaaaaaaaaaaaaaaaaaa\
+    aaaaaaaaaaaaaaaaaaaaaaaaaaaaaaaaaaaaaaaaaaaaaaaaaaa | Err(Fault { at: 106 })";
+
+#[test]
+fn addresses_of_ipc_are_read(rt: HostRuntime) {
+    check_rows(&rt, rt.alloc(), OF_IPC);
+}
+
 const OF_WEBSOCKET: &str = "\
 ws://localhost:80/a | Ok(Ws { host: V4(127, 0, 0, 1), port: 80, path: Bytes { items: [47, 97] } })
 ws://1.2.3.4:80 | Ok(Ws { host: V4(1, 2, 3, 4), port: 80, path: Bytes { items: [47] } })

@@ -18,6 +18,8 @@ mod inproc;
 #[cfg(test)]
 mod intervals;
 #[cfg(test)]
+mod ipc;
+#[cfg(test)]
 mod lines;
 #[cfg(test)]
 mod nets;

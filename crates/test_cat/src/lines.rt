@@ -6,6 +6,7 @@
 //! | `link STEP..`, `links COUNT STEP..` | one more link, or COUNT more, each with this script |
 //! | `listener` | the links below come at one more listener |
 //! | `dials PORT`, `dials PORT PATH` | the links below are for dials to this port of 127.0.0.1, over TCP or WebSocket |
+//! | `dials ipc PATH` | the links below are for dials to this path over IPC |
 //! | `pace TURNS STEP` | how many turns the pace has, and how many milliseconds apart |
 //! | `net_fails N`, `sink_fails N` | the Nth call of the net or the sink fails |
 //! | `comes STATUS` | the words are run, and have this status; the lines below are about this run |
@@ -287,9 +288,13 @@ fn add_links(
     true
 }
 
-// The address with this port, over TCP where no path follows it.
+// The address with this port, over TCP where no path follows it; or over IPC.
 fn address(rt: &impl Abort, alloc: Global, words: &str) -> Option<Addr> {
     let (port, path) = cut(words);
+    if port == "ipc" {
+        let path = made(rt, Bytes::from_slice(alloc, path.as_bytes()));
+        return Some(Addr::Ipc { path });
+    }
     let port = match port.parse::<u16>() {
         Ok(port) => port,
         Err(_) => return None,

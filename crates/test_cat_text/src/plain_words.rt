@@ -205,6 +205,7 @@ fn may_be_dialed(addr: &Addr) -> bool {
             path: _,
         } => *host != Host::Any && *port != 0,
         Addr::Inproc { name: _ } => true,
+        Addr::Ipc { path: _ } => true,
     }
 }
 

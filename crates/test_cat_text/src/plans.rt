@@ -38,6 +38,13 @@ fn push_address(rt: &impl Abort, text: &mut String, addr: &Addr) {
                 text.push_str(made(rt, std::str::from_utf8(name.as_slice()))),
             )
         }
+        Addr::Ipc { path } => {
+            made(rt, text.push_str("ipc "));
+            made(
+                rt,
+                text.push_str(made(rt, std::str::from_utf8(path.as_slice()))),
+            )
+        }
     }
 }
 
@@ -144,7 +151,8 @@ const ENDS: &str = "\
 --pull --listen tcp://*:0 | Pull listen *:0 None
 --listen tcp://localhost:1 --pull --listen=inproc://tcp://*:0 | Pull listen 127.0.0.1:1 listen tcp://*:0 None
 --pull --listen ws://*:0 --dial=ws://1.2.3.4:80/a/b | Pull listen ws *:0/ dial ws 1.2.3.4:80/a/b None
---pull --dial ws://localhost:65535 | Pull dial ws 127.0.0.1:65535/ None";
+--pull --dial ws://localhost:65535 | Pull dial ws 127.0.0.1:65535/ None
+--pull --listen ipc:///tmp/a --dial=ipc://b | Pull listen ipc /tmp/a dial ipc b None";
 
 #[test]
 fn ends_keep_the_order_of_the_words(rt: HostRuntime) {

@@ -42,7 +42,7 @@ fn dial_at<N: Net, P: Pace>(
 
 // A connection that isn't made is asked for until five seconds are over, and then another one begins. `None` where the
 // port is taken.
-fn is_given_up<R: std::net::Net + AllocGlobal + Abort + Clone + Drop>(
+fn is_given_up<R: std::net::Net + std::fs::Files + AllocGlobal + Abort + Clone + Drop>(
     rt: &R,
     port: u16,
 ) -> Option<bool> {
@@ -63,7 +63,7 @@ fn is_given_up<R: std::net::Net + AllocGlobal + Abort + Clone + Drop>(
 
 // The result of the dial after a connection under way was reported: its listener accepts what waits, or goes. The pace
 // stands still, so the connection is never given up. `None` where the port is taken.
-fn dial_when_reported<R: std::net::Net + AllocGlobal + Abort + Clone + Drop>(
+fn dial_when_reported<R: std::net::Net + std::fs::Files + AllocGlobal + Abort + Clone + Drop>(
     rt: &R,
     goes: bool,
     port: u16,
@@ -91,7 +91,7 @@ fn dial_when_reported<R: std::net::Net + AllocGlobal + Abort + Clone + Drop>(
 }
 
 // Aborts where that dial isn't this.
-fn dials_when_reported<R: std::net::Net + AllocGlobal + Abort + Clone + Drop>(
+fn dials_when_reported<R: std::net::Net + std::fs::Files + AllocGlobal + Abort + Clone + Drop>(
     rt: &R,
     goes: bool,
     wanted: DialEnd,

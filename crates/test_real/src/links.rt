@@ -80,7 +80,8 @@ pub trait Finishes<P>: Net {
     fn says(&self) -> Option<NetFault>;
 }
 
-impl<R: std::net::Net + Drop, C: Clock + Drop> Finishes<RealPace<C>> for TcpNet<R> {
+impl<R: std::net::Net + std::fs::Files + Drop, C: Clock + Drop> Finishes<RealPace<C>>
+    for TcpNet<R> {
     fn finishes(&mut self, pace: &mut RealPace<C>) -> u32 {
         self.finish(pace)
     }
@@ -669,6 +670,7 @@ fn is_so<
 /// Aborts where the line isn't right for the net and the pace of this machine.
 pub fn real_plays<
     R: std::net::Net<Stream = TcpStream>
+        + std::fs::Files
         + Clock
         + Threads
         + Sync

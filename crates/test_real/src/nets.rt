@@ -8,6 +8,7 @@
 //! | `resets write 28235` | the same, and a write finds it |
 //! | `reaches one 28195` | a listener at one address of this machine is reached there, and not at another one |
 //! | `reaches every 28235` | a listener at every address is reached at both |
+//! | `local socket_of_a_test` | the path isn't there; then a byte goes there and back, the path is in use, and stays |
 //! | `rests 3 3` | after 3 quiet turns the tick is 3 or later |
 //! | `looks_again 101 5 5 50` | after 101 quiet turns the shortest of 5 rests takes 5 to 50 milliseconds |
 //!
@@ -20,8 +21,10 @@ ghost use Rattle.sp_base.specs.Addresses.{is_dialable, is_linked};
 use crate::bytes::patterned;
 use crate::checks::made;
 use cat_run::real::{RealPace, TcpNet};
-use sp_base::{Addr, Host, Link, LinkRead, LinkWrite, Linked, Listened, Net, Pace, Paced};
+use sp_base::{Addr, Bytes, Host, Link, LinkRead, LinkWrite, Linked, Listened, Net, Pace, Paced};
 use std::alloc::Global;
+use std::fs;
+use std::fs::Files;
 use std::net::{IpAddr, Ipv4Addr, SocketAddr, TcpStream};
 use std::process::Abort;
 use std::rt::Clock;
@@ -301,26 +304,52 @@ fn carries_at<N: Net, P: Pace>(
     talks_to_itself(net, pace, at, &address(1, port), &bytes, &mut buffer)
 }
 
-// Listens at a free port, talks to itself there, and tries to listen there again. `None` where the port is taken.
-fn talks_at<N: Net, P: Pace>(net: &mut N, pace: &mut P, port: u16) -> Option<bool> {
-    let addr = address(1, port);
-    let refused = is_refused(net, &addr);
-    match net.listen(&addr) {
+// Listens at the address, talks to itself there, and tries to listen there again. `None` where it is taken.
+fn talks_at<N: Net, P: Pace>(net: &mut N, pace: &mut P, addr: &Addr) -> Option<bool>
+    requires dialable { is_dialable addr.now ≡ true }
+    requires linked { is_linked addr.now ≡ true }
+{
+    let refused = is_refused(net, addr);
+    match net.listen(addr) {
         Listened::At(at) => {
             let mut buffer = [0u8; 4];
-            let talked = talks_to_itself(net, pace, at, &addr, b"x", &mut buffer);
-            let in_use = matches!(net.listen(&addr), Listened::Failed);
+            let talked = talks_to_itself(net, pace, at, addr, b"x", &mut buffer);
+            let in_use = matches!(net.listen(addr), Listened::Failed);
             Some(refused && in_use && talked == Some(true))
         }
         Listened::Failed => None,
     }
 }
 
+// An address of IPC.
+fn local(alloc: Global, path: &str) -> Option<Addr>
+    ensures { IfSome result (λ addr. (is_dialable addr ≡ true) × (is_linked addr ≡ true)) }
+{
+    match Bytes::from_slice(alloc, path.as_bytes()) {
+        Ok(path) => Some(Addr::Ipc { path }),
+        Err(_) => None,
+    }
+}
+
+// Talks to itself at this path, whose file is left.
+fn talks_locally<S: Files, N: Net, P: Pace>(
+    system: &S,
+    net: &mut N,
+    pace: &mut P,
+    alloc: Global,
+    path: &str,
+) -> Option<bool> {
+    let addr = local(alloc, path)?;
+    let _ = fs::remove_file(system, path);
+    let talked = talks_at(net, pace, &addr)?;
+    Some(talked && fs::remove_file(system, path).is_ok())
+}
+
 // Returns whether all went well at `count` of 30 ports; `None` where too few were free.
 fn talks_from<N: Net, P: Pace>(net: &mut N, pace: &mut P, count: u32, first: u16) -> Option<bool> {
     let mut well = 0u32;
     for step in 0..30 {
-        if let Some(one) = talks_at(net, pace, first.saturating_add(step)) {
+        if let Some(one) = talks_at(net, pace, &address(1, first.saturating_add(step))) {
             if !one {
                 return Some(false);
             }
@@ -447,7 +476,7 @@ fn paces<P: Pace>(pace: &mut P, name: &str, words: &str) -> Option<bool> {
 }
 
 // Returns whether the line is right; `None` where it isn't a line, or no port is free.
-fn is_so<S: std::net::Net, N: Net, P: Pace>(
+fn is_so<S: std::net::Net + Files, N: Net, P: Pace>(
     system: &S,
     net: &mut N,
     pace: &mut P,
@@ -457,6 +486,9 @@ fn is_so<S: std::net::Net, N: Net, P: Pace>(
     let (name, words) = line.split_once(' ')?;
     if name == "rests" || name == "looks_again" {
         return paces(pace, name, words);
+    }
+    if name == "local" {
+        return talks_locally(system, net, pace, alloc, words);
     }
     let (word, port) = words.split_once(' ')?;
     let port = port.parse::<u16>().ok()?;
@@ -470,7 +502,10 @@ fn is_so<S: std::net::Net, N: Net, P: Pace>(
 }
 
 /// Aborts where the line isn't right for the net and the pace of this machine.
-pub fn plays<R: std::net::Net + Clock + AllocGlobal + Abort + Clone + Drop>(rt: &R, line: &str) {
+pub fn plays<R: std::net::Net + Files + Clock + AllocGlobal + Abort + Clone + Drop>(
+    rt: &R,
+    line: &str,
+) {
     let mut pace = made(rt, RealPace::new(made(rt, rt.clone()), rt, rt.alloc()));
     let registry = made(rt, pace.registry());
     let mut net = TcpNet::new(made(rt, rt.clone()), registry, rt.alloc());

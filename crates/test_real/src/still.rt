@@ -102,11 +102,18 @@ fn long_file(rt: &impl Abort, alloc: Global) -> MemFiles {
 
 // How many turns a push has until its send timed out and the run ended; none where the port is taken, and 0 where it
 // ended otherwise.
-fn turns_of<R: std::net::Net + Clock + AllocGlobal + Abort + Wait + Threads + Sync + Clone + Drop>(
-    rt: &R,
-    port: u16,
-    reading: Reading,
-) -> Option<u64> {
+fn turns_of<
+    R: std::net::Net
+        + std::fs::Files
+        + Clock
+        + AllocGlobal
+        + Abort
+        + Wait
+        + Threads
+        + Sync
+        + Clone
+        + Drop,
+>(rt: &R, port: u16, reading: Reading) -> Option<u64> {
     let alloc = rt.alloc();
     let text = made(
         rt,
@@ -139,11 +146,18 @@ fn turns_of<R: std::net::Net + Clock + AllocGlobal + Abort + Wait + Threads + Sy
 }
 
 // The same at the first of these ports that is free.
-fn turns_at<R: std::net::Net + Clock + AllocGlobal + Abort + Wait + Threads + Sync + Clone + Drop>(
-    rt: &R,
-    first: u16,
-    reading: Reading,
-) -> u64 {
+fn turns_at<
+    R: std::net::Net
+        + std::fs::Files
+        + Clock
+        + AllocGlobal
+        + Abort
+        + Wait
+        + Threads
+        + Sync
+        + Clone
+        + Drop,
+>(rt: &R, first: u16, reading: Reading) -> u64 {
     for port in first..first.saturating_add(30) {
         if let Some(turns) = turns_of(rt, port, reading) {
             return turns;

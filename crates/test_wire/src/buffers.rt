@@ -3,7 +3,7 @@ ghost use Rattle.std.specs.Prelude.{◌≡◌, true};
 ghost use Rattle.test_wire.specs.Untolds.{untold_view};
 
 use crate::checks::{holds, made, same};
-use sp_base::{Bytes, Link, LinkRead, LinkWrite};
+use sp_base::{Bytes, Framing, Link, LinkRead, LinkWrite};
 use sp_fakes::{LinkStep, MemLink};
 use sp_msg::{Wire, WireIn};
 use sp_tcp::TcpWire;
@@ -69,7 +69,7 @@ fn wire(rt: &impl Abort, alloc: Global) -> TcpWire<NotingLink>
         link: MemLink::new(alloc, script, 1, Vec::new(alloc)),
         room: 0,
     };
-    match TcpWire::new(alloc, link, &[], LARGE as u32) {
+    match TcpWire::new(alloc, link, &[], LARGE as u32, Framing::Tcp) {
         Ok(wire) => wire,
         Err(_) => panic!(rt; "no memory for a wire"),
     }

@@ -3,7 +3,7 @@ ghost use Rattle.std.specs.Prelude.{◌≡◌, true};
 
 use super::*;
 use crate::checks::{holds, made, same};
-use sp_base::{Bytes, SpError};
+use sp_base::{Bytes, Framing, Scheme, SpError};
 use sp_fakes::{LinkStep, MemLink, MemWire, WireStep};
 use sp_msg::{HeaderFull, Message, Room, Short, Wire, WireFlush, WireIn};
 use sp_tcp::{Prefix, Reader, TcpWire};
@@ -105,7 +105,7 @@ fn scripted(
     let link = Untold {
         link: MemLink::new(alloc, script, take, made(rt, Vec::from_slice(alloc, fails))),
     };
-    match TcpWire::new(alloc, link, rest, max) {
+    match TcpWire::new(alloc, link, rest, max, Framing::Tcp) {
         Ok(wire) => wire,
         Err(_) => panic!(rt; "no memory for a wire"),
     }
@@ -458,7 +458,7 @@ fn a_write_that_fails_ends_the_wire(rt: HostRuntime) {
 fn tube(rt: &impl Abort, alloc: Global, held: u64) -> TcpWire<Tube>
     ensures { result.wire.is_open ≡ true }
 {
-    match TcpWire::new(alloc, Tube::new(alloc, held), &[], 100) {
+    match TcpWire::new(alloc, Tube::new(alloc, held), &[], 100, Framing::Tcp) {
         Ok(wire) => wire,
         Err(_) => panic!(rt; "no memory for a wire"),
     }
@@ -525,4 +525,87 @@ fn a_flush_says_whether_all_is_written(rt: HostRuntime) {
     same(&rt, link.writes(), 3);
     same(&rt, link.len(), 13);
     holds(&rt, !link.is_open());
+}
+
+// ---- over IPC
+
+// A wire of IPC over a link that gives the bytes in pieces of length `piece` with a pause after each, and then ends. A
+// body has at most `max` bytes, and a write takes `take`.
+fn ipc(
+    rt: &impl Abort,
+    alloc: Global,
+    bytes: &[u8],
+    piece: usize,
+    take: usize,
+    max: u32,
+) -> TcpWire<Untold>
+    ensures { result.wire.is_open ≡ true }
+{
+    let made_link = MemLink::new(
+        alloc,
+        pieces(rt, alloc, bytes, piece),
+        take,
+        Vec::new(alloc),
+    );
+    let link = Untold {
+        link: made_link.placed(0, Scheme::Ipc),
+    };
+    match TcpWire::new(alloc, link, &[], max, Framing::Ipc) {
+        Ok(wire) => wire,
+        Err(_) => panic!(rt; "no memory for a wire"),
+    }
+}
+
+// Returns whether a wire of IPC gives `wanted` from pieces of each length up to 10.
+fn ipc_gives<R: Wait + Abort>(alloc: Global, rt: &R, bytes: &[u8], wanted: &[u8]) -> bool {
+    let mut all = true;
+    for piece in 1..11 {
+        let mut wire = ipc(rt, alloc, bytes, piece, 1, 3);
+        let said = pulls(alloc, rt, &mut wire);
+        all = all && said.as_slice() == wanted;
+    }
+    all
+}
+
+#[test]
+fn a_wire_of_ipc_reads_a_byte_before_each_size(rt: HostRuntime) {
+    let alloc = rt.alloc();
+    // two messages, the second of no bytes
+    let bytes = b"\x01\x00\x00\x00\x00\x00\x00\x00\x02hi\x01\x00\x00\x00\x00\x00\x00\x00\x00";
+    holds(&rt, ipc_gives(alloc, &rt, bytes, b"[hi][]e"));
+    // the end after the byte, and within a size
+    let bytes = b"\x01\x00\x00\x00\x00\x00\x00\x00\x02hi\x01";
+    holds(&rt, ipc_gives(alloc, &rt, bytes, b"[hi]e"));
+    holds(&rt, ipc_gives(alloc, &rt, b"\x01\x00\x00\x00", b"e"));
+    // another byte, after a message and first
+    let bytes = b"\x01\x00\x00\x00\x00\x00\x00\x00\x02hi\x00";
+    holds(&rt, ipc_gives(alloc, &rt, bytes, b"[hi]x"));
+    holds(&rt, ipc_gives(alloc, &rt, b"\x02", b"x"));
+    // a size above the limit, and the limit
+    let bytes = b"\x01\x00\x00\x00\x00\x00\x00\x00\x04";
+    holds(&rt, ipc_gives(alloc, &rt, bytes, b"x"));
+    let bytes = b"\x01\x00\x00\x00\x00\x00\x00\x00\x03abc";
+    holds(&rt, ipc_gives(alloc, &rt, bytes, b"[abc]e"));
+}
+
+#[test]
+fn a_wire_of_ipc_writes_a_byte_before_each_size(rt: HostRuntime) {
+    let alloc = rt.alloc();
+    let mut stuck = ipc(&rt, alloc, b"", 1, 0, 100);
+    same(
+        &rt,
+        puts(alloc, &rt, &mut stuck, 17).as_str(),
+        "yyyyyyyyyyyyyyyyf",
+    );
+    let mut slow = ipc(&rt, alloc, b"", 1, 1, 100);
+    same(
+        &rt,
+        puts(alloc, &rt, &mut slow, 17).as_str(),
+        "yyyyyyyyyyyyyyyyy",
+    );
+    let link = slow.into_link();
+    let written = link.link.written();
+    same(&rt, written.len(), 16 * 18);
+    let first = b"\x01\x00\x00\x00\x00\x00\x00\x00\x09\x00\x00\x00\x07hello\x01";
+    holds(&rt, written.starts_with(first));
 }

@@ -6,7 +6,7 @@ ghost use Rattle.sp_links.specs.Going.{IsUnderWay};
 
 use crate::checks::{holds, made};
 use crate::heads::{REQUEST, RESPONSE};
-use sp_base::{Addr, Bytes, Host, Role, Scheme};
+use sp_base::{Addr, Bytes, Framing, Host, Role, Scheme};
 use sp_fakes::{LinkStep, MemLink};
 use sp_links::{Opening, Progress, Way};
 use std::alloc::Global;
@@ -131,7 +131,9 @@ fn both_sides_greet_over_tcp(rt: HostRuntime) {
             alloc,
             link,
             Role::Rep,
-            Way::Greeting,
+            Way::Greeting {
+                framing: Framing::Tcp,
+            },
             opened,
             GREETING,
             b"\x00\x00",
@@ -142,11 +144,14 @@ fn both_sides_greet_over_tcp(rt: HostRuntime) {
 #[test]
 fn what_is_wrong_is_not_answered(rt: HostRuntime) {
     let alloc = rt.alloc();
-    let link = linked(&rt, alloc, b"\x00SQ", 0, b"", Scheme::Tcp);
+    let link = linked(&rt, alloc, b"\x00SQ", 0, b"", Scheme::Ipc);
     let bad = Progress::Bad;
+    let way = Way::Greeting {
+        framing: Framing::Ipc,
+    };
     holds(
         &rt,
-        comes_to(alloc, link, Role::Rep, Way::Greeting, bad, GREETING, b""),
+        comes_to(alloc, link, Role::Rep, way, bad, GREETING, b""),
     );
     let link = linked(&rt, alloc, REQUEST, 0, b"", Scheme::Ws);
     let way = Way::Serves {

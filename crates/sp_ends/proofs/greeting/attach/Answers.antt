@@ -12,6 +12,9 @@ use Rattle.sp_ends.proofs.greeting.attach.Goals as goal
 use Rattle.sp_ends.proofs.Turns.{quiet_one, quiet_both, first_play, settles_play, lanes_one, lanes_both, lane_first, lane_settles, hand_linked, dry_first, dry_settles}
 use Rattle.sp_ends.proofs.AttachedLinks.{new_unused, new_link, up_stands, hand_again, refused_cause}
 
+pub over-requires-clause-scheme : goal.over-requires-clause-scheme
+over-requires-clause-scheme g c = let s = c.requires.stands in s.4.scheme
+
 pub miss-requires-clause-stands : goal.miss-requires-clause-stands
 miss-requires-clause-stands g c =
     let s = c.requires.stands in

@@ -2,8 +2,13 @@ use Rattle.std.proofs.Common.{List, ℕ, sym, subst}
 use Rattle.sp_upgrade.specs.Opening.{ServerAnswers, ClientAnswers}
 use Rattle.sp_links.specs.declared.way.Way.{Way}
 use Rattle.sp_links.specs.Openings.{Judges}
-use Rattle.sp_links.proofs.Owing.{judges_request, judges_response}
+use Rattle.sp_links.proofs.Owing.{any_framing, judges_request, judges_response}
 use Rattle.sp_links.proofs.judge.judge.Goals as goal
+
+pub returns-in-Greeting : goal.returns-in-Greeting
+returns-in-Greeting c =
+    subst (λ (w : Way). Judges c.args.role w c.judge_greeting.result c.args.came.now) (sym c.in-Greeting.is)
+    (any_framing c.args.role c.in-Greeting.framing c.args.came.now c.judge_greeting.result c.judge_greeting.ensures)
 
 pub returns-in-Serves : goal.returns-in-Serves
 returns-in-Serves c =

@@ -3,7 +3,7 @@ use Rattle.sp_base.specs.declared.outside.LinkRead.{LinkRead}
 use Rattle.sp_base.specs.declared.outside.LinkRead.TheVariants as reads
 use Rattle.sp_msg.specs.declared.wire.WireIn.TheVariants as ins
 use Rattle.sp_tcp.specs.Inlets.{ReadInto}
-use Rattle.sp_tcp.specs.Marked.{IsMarkedPart, IsMarkedBad}
+use Rattle.sp_base.specs.SpIpc.{IsMarkedPart, IsMarkedBad}
 use Rattle.sp_tcp.proofs.Pulls.{rose_later, began_open, going_more, pulled_here, pulled_read}
 use Rattle.sp_tcp.proofs.inlet.pull_from.Goals as goal
 
