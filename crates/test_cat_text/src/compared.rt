@@ -15,9 +15,10 @@ use std::process::Abort;
 const POOL: &str = "\
     --pull --push --sub0 --req --rep --pair --bus0 --pub --surveyor --respondent0 --listen --listen=tcp://*:0 \
     --listen=inproc://a --dial --dial=tcp://1.2.3.4:5 --dial=tcp://*:1 --dial=tcp://1.2.3.4:0 \
-    tcp://127.0.0.1:5555 tcp://*:5 tcp://127.0.0.1:0 inproc://x ipc://x ipc:// tcp://1.2.3 --data --data=a=b --file --file= \
-    --file=f --subscribe --subscribe=a --count --count=2 --count=4294967296 --interval --interval=86400 \
-    --recv-timeout=86401 --send-timeout=0 0 3 01 x '' --ascii --hex --pull=x --drill --drill=1 --drill=0 --bogus";
+    tcp://127.0.0.1:5555 tcp://*:5 tcp://127.0.0.1:0 inproc://x ipc://x ipc:// tcp://1.2.3 --data --data=a=b \
+    --file --file= --file=f --subscribe --subscribe=a --count --count=2 --count=4294967296 --interval \
+    --interval=86400 --recv-timeout=86401 --send-timeout=0 0 3 01 x '' --ascii --hex --pull=x --drill --drill=1 \
+    --drill=0 --bogus";
 
 /// Whole options that most often go together.
 const PARTS: &str = "\
