@@ -72,7 +72,7 @@ impl<L: Link> LinkEnds<L> {
         })
     }
 
-    /// Listens on one more address, of TCP or of WebSocket.
+    /// Listens on one more address, of TCP, IPC or WebSocket.
     pub fn listen<N: Net<L = L>>(&mut self, net: &mut N, addr: &Addr) -> Result<(), EndError>
         requires linked { is_linked addr.now ≡ true }
         ensures { ListensLink result addr.now self.old self.new (N.seen net.old) (N.seen net.new) }
@@ -100,7 +100,7 @@ impl<L: Link> LinkEnds<L> {
         }
     }
 
-    /// Dials one more address, of TCP or of WebSocket, from the next turn on.
+    /// Dials one more address, of TCP, IPC or WebSocket, from the next turn on.
     pub fn dial(&mut self, addr: &Addr) -> Result<(), EndError>
         requires dialable { is_dialable addr.now ≡ true }
         ensures { DialsLink result addr.now self.old self.new }

@@ -87,9 +87,9 @@ impl<
 }
 
 impl<'r, R: Wait, P: Proto, L: Link, N: Net<L = L>, C: Pace> NodeEnds<'r, R, P, L, N, C> {
-    /// Listens at one address more (nng_listen(3)): over TCP and WebSocket at once, on a name within this node. Refused
-    /// with the ends as they were, where the text is no address (`Address`), the node has 64 ends (`Many`), the net fails
-    /// (`Fault`, as for a port in use) or the name is listened on (`InUse`).
+    /// Listens at one address more (nng_listen(3)): over TCP, IPC and WebSocket at once, on a name within this node.
+    /// Refused with the ends as they were, where the text is no address (`Address`), the node has 64 ends (`Many`), the
+    /// net fails (`Fault`, as for a port in use) or the name is listened on (`InUse`).
     pub fn listen(&mut self, text: &str) -> Result<(), EndsError>
         ensures { OfText result text.now (λ addr. Listens result addr self.old self.new) (self.new ≡ self.old) }
     {

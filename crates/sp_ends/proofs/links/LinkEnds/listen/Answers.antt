@@ -8,7 +8,7 @@ use Rattle.sp_base.specs.Steps.{ListenedAs}
 use Rattle.sp_ends.specs.AddedEnds.{FailsToListen}
 use Rattle.sp_ends.specs.Listening.{AreCounted, room_for}
 use Rattle.sp_ends.proofs.Owned.{counted_as, counted_listener}
-use Rattle.sp_ends.proofs.links.LinkEnds.listen.Goals.{in-Ws-1, in-Inproc-1, in-Tcp-1}
+use Rattle.sp_ends.proofs.links.LinkEnds.listen.Goals.{in-Ws-1, in-Inproc-1, in-Tcp-1, in-Ipc-1}
 use Rattle.sp_ends.proofs.links.LinkEnds.listen.Goals as goal
 
 went_well : {A E : Type 0} (r : Result A E) (P : Type 0) → OnOk r P → is_err r ≡ false → P
@@ -42,6 +42,10 @@ pub invariant_of-self-in-Failed-3 : goal.invariant_of-self-in-Failed-3
 invariant_of-self-in-Failed-3 g c =
     counted_as c.self.inside.greetings.items c.reserve-else-is_err.new.self.items (length c.self.inside.listeners.items) (length c.reserve.new.self.items) c.self.inside.newcomers.items c.reserve-2.new.self.items _ _ c.reserve-else-is_err.ensures.items (ap length c.reserve.ensures.items) c.reserve-2.ensures.items c.reserve-2.ensures.capacity c.self.invariant
 
+pub invariant_of-self-in-Failed-4 : goal.invariant_of-self-in-Failed-4
+invariant_of-self-in-Failed-4 g c =
+    counted_as c.self.inside.greetings.items c.reserve-else-is_err.new.self.items (length c.self.inside.listeners.items) (length c.reserve.new.self.items) c.self.inside.newcomers.items c.reserve-2.new.self.items _ _ c.reserve-else-is_err.ensures.items (ap length c.reserve.ensures.items) c.reserve-2.ensures.items c.reserve-2.ensures.capacity c.self.invariant
+
 pub push_reserved-requires : goal.push_reserved-requires
 push_reserved-requires g c =
     let room = went_well c.reserve.result _ c.reserve.ensures.ok (sym c.is_err.ensures.value ∙ c.if-is_err.false) in omega (arith, room)
@@ -69,6 +73,7 @@ returns-in-Failed g c =
       | in-Ws-1 w ↦ (w.self-is ∙ (same ∙ c.self.view_is), fails)
       | in-Inproc-1 w ↦ (w.self-is ∙ (same ∙ c.self.view_is), fails)
       | in-Tcp-1 w ↦ (w.self-is ∙ (same ∙ c.self.view_is), fails)
+      | in-Ipc-1 w ↦ (w.self-is ∙ (same ∙ c.self.view_is), fails)
     ]
 
 pub returns-in-At : goal.returns-in-At
