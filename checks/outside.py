@@ -1297,6 +1297,21 @@ def long_paths():
     return all(told), f"{told}"
 
 
+def a_full_path_holds_nobody_up():
+    """A listener that has no room for one more isn't waited for: another end is served meanwhile, and this one later."""
+    full, other = free_port(), free_port()
+    with listener_at(full, 0) as listener, connect(full):
+        push = listening(OURS, other, "--push", "--data", "first")
+        run = start("--pull", "--ascii", "--count", "2", "--dial", address(full), "--dial", address(other))
+        told = [reads(run, b"first\n"), said([push]) == ([b""], True)]
+        listener.accept()[0].close()
+        peer, _ = listener.accept()
+        with peer:
+            peer.sendall(greeting(PUSH) + frame(b"second"))
+            told.append(said([run]) == ([b"second"], True))
+    return all(told), f"{told}"
+
+
 def is_over(peer):
     """Returns whether the peer has ended its side, or reset it."""
     try:
@@ -1394,7 +1409,7 @@ def main():
     each = [faults_name_their_words, standard_input, empty_input, broken_peers, slow_reader, slow_peer, longest_message,
             full_output, send_times_out, numbers_differ, peer_that_comes_back, words_of_devices,
             idle_rounds_allocate_nothing, many_links, many_messages, many_pushed]
-    ipc = [a_path_that_is_there, another_byte_ends_its_link, no_permission]
+    ipc = [a_path_that_is_there, a_full_path_holds_nobody_up, another_byte_ends_its_link, no_permission]
     if THEIRS:
         each += [theirs_to_ours, theirs_pulls_from_ours, ours_to_theirs, four_of_theirs, theirs_is_dialed,
                  replies_to_theirs, answers_theirs, pairs_with_theirs, pair_takes_the_next, requests, surveys,
