@@ -3,11 +3,11 @@
 printing of large bodies; and a drill of ours.
 
 The other end is a raw peer written here, which floods or drains, so that it isn't the limit; or, in `both_ends`, the same
-program. Prints a line for each figure. Words name the parts that are wanted; without words it measures all.
+program. Prints a line for each figure. Words name the parts that are wanted; without words it measures all, what
+depends on it over each transport that OVER names, of tcp and ipc.
 """
 import os
 import resource
-import shutil
 import socket
 import statistics
 import subprocess
@@ -15,53 +15,39 @@ import sys
 import threading
 import time
 
-HERE = os.path.dirname(os.path.abspath(__file__))
-OURS = os.environ.get("OURS", os.path.join(HERE, "..", "crates", "nngcat", "out", "nngcat"))
-THEIRS = shutil.which("nngcat")
+from outside import (OURS, OVER, PULL, PUSH, REQ, THEIRS, Transport, address, connect, frame, free_port, greeting, head, is_ipc,
+                     listener_at, read_all, wait_for)
+
 SIZES = [(16, 200_000), (1024, 200_000), (65536, 8_000)]
 DRILLS = [100_000]
 BODIES = 300
 FORMS = ("--raw", "--msgpack", "--hex", "--quoted", "--ascii")
 
 
-def free_port():
-    with socket.socket() as s:
-        s.bind(("127.0.0.1", 0))
-        return s.getsockname()[1]
-
-
-def connect(port):
-    for _ in range(500):
-        try:
-            return socket.create_connection(("127.0.0.1", port))
-        except OSError:
-            time.sleep(0.01)
-    raise OSError("nobody listens")
-
-
 def greet(s, role):
-    s.sendall(b"\0SP\0\0" + bytes([role]) + b"\0\0")
-    came = b""
-    while len(came) < 8:
-        came += s.recv(8 - len(came))
+    s.sendall(greeting(role))
+    if len(read_all(s, 8)) < 8:
+        raise OSError("no greeting")
 
 
-def address(port):
-    return f"tcp://127.0.0.1:{port}"
+def at_once(s):
+    """Each write goes out as it is."""
+    if not is_ipc():
+        s.setsockopt(socket.IPPROTO_TCP, socket.TCP_NODELAY, 1)
 
 
 def frames(size, count):
-    return (size.to_bytes(8, "big") + b"x" * size) * count
+    return frame(b"x" * size) * count
 
 
 def pull_rate(program, size, count):
     """Messages a second that a pull prints into a file of nothing."""
     port = free_port()
-    run = subprocess.Popen([program, "--pull", "--listen", f"tcp://127.0.0.1:{port}", "--raw", "--count", str(count)],
+    run = subprocess.Popen([program, "--pull", "--listen", address(port), "--raw", "--count", str(count)],
                            stdout=subprocess.DEVNULL)
     peer = connect(port)
-    greet(peer, 0x50)
-    per = max(1, (1 << 20) // (size + 8))
+    greet(peer, PUSH)
+    per = max(1, (1 << 20) // len(frames(size, 1)))
     chunk = frames(size, per)
     begun = time.time()
     left = count
@@ -80,16 +66,12 @@ def pull_rate(program, size, count):
 
 def push_rate(program, size, count):
     """Messages a second that a push sends."""
-    with socket.socket() as listener:
-        listener.setsockopt(socket.SOL_SOCKET, socket.SO_REUSEADDR, 1)
-        listener.bind(("127.0.0.1", 0))
-        listener.listen(8)
-        port = listener.getsockname()[1]
-        run = subprocess.Popen([program, "--push", "--dial", f"tcp://127.0.0.1:{port}", "--data", "x" * size,
-                                "--count", str(count)])
+    port = free_port()
+    with listener_at(port) as listener:
+        run = subprocess.Popen([program, "--push", "--dial", address(port), "--data", "x" * size, "--count", str(count)])
         peer, _ = listener.accept()
-        greet(peer, 0x51)
-        wanted, came = count * (size + 8), 0
+        greet(peer, PULL)
+        wanted, came = count * len(frames(size, 1)), 0
         begun = time.time()
         buffer = bytearray(1 << 20)
         while came < wanted:
@@ -100,17 +82,17 @@ def push_rate(program, size, count):
         took = time.time() - begun
         run.wait(timeout=60)
         peer.close()
-    return came / (size + 8) / took
+    return came / len(frames(size, 1)) / took
 
 
 def latency(program, count=200):
     """Milliseconds from a message to an idle pull to its print, the median."""
     port = free_port()
-    run = subprocess.Popen([program, "--pull", "--listen", f"tcp://127.0.0.1:{port}", "--raw", "--count", str(count)],
+    run = subprocess.Popen([program, "--pull", "--listen", address(port), "--raw", "--count", str(count)],
                            stdout=subprocess.PIPE)
     peer = connect(port)
-    peer.setsockopt(socket.IPPROTO_TCP, socket.TCP_NODELAY, 1)
-    greet(peer, 0x50)
+    at_once(peer)
+    greet(peer, PUSH)
     times = []
     for n in range(count):
         time.sleep(0.005)
@@ -130,7 +112,7 @@ def between_rate(program, size, count):
     port = free_port()
     pull = subprocess.Popen([program, "--pull", "--listen", address(port), "--raw", "--count", str(count)],
                             stdout=subprocess.DEVNULL)
-    connect(port).close()
+    wait_for(port)
     begun = time.time()
     push = subprocess.Popen([program, "--push", "--dial", address(port), "--data", "x" * size, "--count", str(count)])
     pull.wait(timeout=300)
@@ -144,13 +126,34 @@ def trip_rate(server, count):
     the last. Debian's requester gives up after a few: `Cannot set recv timeout`."""
     port = free_port()
     replier = subprocess.Popen([server, "--rep", "--listen", address(port), "--data", "fedcba9876543210"])
-    connect(port).close()
+    wait_for(port)
     run = subprocess.Popen([OURS, "--req", "--dial", address(port), "--data", "0123456789abcdef", "--raw",
                             "--interval", "0", "--count", str(count)], stdout=subprocess.PIPE)
     size, took, _ = read_at_once(run)
     replier.kill()
     replier.wait()
     return (size // 16 - 1) / took
+
+
+def trip(program, count=10_000):
+    """The median of a round trip of 8 bytes in microseconds, of a raw requester and a rep."""
+    port = free_port()
+    run = subprocess.Popen([program, "--rep", "--listen", address(port), "--data", "12345678"])
+    request, reply = (frame(bytes.fromhex("80000001") + body) for body in (b"abcdefgh", b"12345678"))
+    times = []
+    with connect(port) as peer:
+        at_once(peer)
+        greet(peer, REQ)
+        for _ in range(count):
+            begun = time.perf_counter()
+            peer.sendall(request)
+            came = read_all(peer, len(reply))
+            times.append(time.perf_counter() - begun)
+            if came != reply:
+                raise OSError(f"a wrong reply: {came!r}")
+    run.kill()
+    run.wait()
+    return statistics.median(times) * 1e6
 
 
 def idle(program, peers=1):
@@ -160,7 +163,7 @@ def idle(program, peers=1):
                            stdout=subprocess.DEVNULL)
     held = [connect(port) for _ in range(peers)]
     for peer in held:
-        greet(peer, 0x50)
+        greet(peer, PUSH)
     time.sleep(2)
     ticks = os.sysconf("SC_CLK_TCK")
 
@@ -197,11 +200,11 @@ def large_bodies(program, form, count):
     port = free_port()
     run = subprocess.Popen([program, "--pull", "--listen", address(port), form, "--count", str(count)],
                            stdout=subprocess.PIPE)
-    text = (1 << 20).to_bytes(8, "big") + bytes(range(256)) * 4096
+    text = head(1 << 20) + bytes(range(256)) * 4096
 
     def send():
         with connect(port) as peer:
-            greet(peer, 0x50)
+            greet(peer, PUSH)
             for _ in range(count):
                 peer.sendall(text)
             peer.recv(1)
@@ -229,18 +232,27 @@ def drill_rate(program, count):
 def show_rates(name, rate, programs):
     for size, count in SIZES:
         rates = [(who, rate(p, size, count if p == OURS else count // 10)) for who, p in programs]
-        print(f"{name} {size}: " + ", ".join(f"{who} {found:,.0f} messages/s" for who, found in rates), flush=True)
+        print(f"{name} {size} over {Transport.now}: " + ", ".join(f"{who} {found:,.0f} messages/s" for who, found in rates), flush=True)
 
 
 def both_ends(programs):
     """Both ends are one program: messages a second. Round trips are those of a requester of ours."""
     show_rates("both ends", between_rate, programs)
-    print("round trips of 16 bytes, ours asks: "
+    print(f"round trips of 16 bytes over {Transport.now}, ours asks: "
           + ", ".join(f"{name} {trip_rate(p, 20_000):,.0f} a second" for name, p in programs), flush=True)
 
 
 def show_latency(programs):
-    print("latency: " + ", ".join(f"{name} {latency(p):.3f} ms" for name, p in programs), flush=True)
+    print(f"latency over {Transport.now}: " + ", ".join(f"{name} {latency(p):.3f} ms" for name, p in programs), flush=True)
+
+
+def show_trip(programs):
+    """The median of a round trip, of five runs in turn."""
+    found = {name: [] for name, _ in programs}
+    for name, p in programs * 5:
+        found[name].append(trip(p))
+    print(f"round trip over {Transport.now}: "
+          + ", ".join(f"{name} {statistics.median(each):.1f} microseconds" for name, each in found.items()), flush=True)
 
 
 def show_drill(_):
@@ -277,10 +289,15 @@ def main():
         print("skipped: crates/nngcat/out/nngcat isn't built")
         return 0
     programs = [("ours", OURS)] + ([("nng 1.5.2", THEIRS)] if THEIRS else [])
-    parts = {"pull": lambda some: show_rates("pull", pull_rate, some), "push": lambda some: show_rates("push", push_rate, some),
-             "both_ends": both_ends, "latency": show_latency, "drill": show_drill, "idle": show_idle, "large": show_large}
-    for name, part in parts.items():
-        if name in (sys.argv[1:] or parts):
+    over_each = {"pull": lambda some: show_rates("pull", pull_rate, some),
+                 "push": lambda some: show_rates("push", push_rate, some),
+                 "both_ends": both_ends, "latency": show_latency, "trip": show_trip}
+    over_tcp = {"drill": show_drill, "idle": show_idle, "large": show_large}
+    parts = [(name, part, over) for over in OVER for name, part in over_each.items()]
+    parts += [(name, part, "tcp") for name, part in over_tcp.items()]
+    for name, part, over in parts:
+        if name in (sys.argv[1:] or (*over_each, *over_tcp)):
+            Transport.now = over
             print(f"load {os.getloadavg()[0]:.1f}", flush=True)
             part(programs)
     return 0

@@ -2,16 +2,16 @@
 """Tries the built nngcat beside Debian's in the order in which ends come and go: who is there first, who is killed and
 comes back, and several ends of one run.
 
-Skips what is missing. Each check prints a line; the status is the number of checks that failed.
+Most checks go over each transport that OVER names, of tcp and ipc. Skips what is missing. Each check prints a line for
+each transport; the status is the number of lines that failed.
 """
 import os
-import select
 import socket
 import sys
 import time
 from concurrent.futures import ThreadPoolExecutor
 
-from outside import OURS, THEIRS, address, answered, begin, free_port, listening, reads, said, stop, stop_all
+from outside import (OURS, THEIRS, address, answered, begin, free_port, listening, reads, run_checks, said, shows, stop)
 
 
 def dialing(program, port, *words):
@@ -146,18 +146,6 @@ def comes_back_to_our_rep(listens):
     return all(came) and stays, came
 
 
-def shows(run, wanted, seconds=20):
-    """Returns whether a run that goes on prints `wanted`, after any other bytes, within `seconds`."""
-    came, until = b"", time.time() + seconds
-    while wanted not in came:
-        ready, _, _ = select.select([run.stdout], [], [], max(0, until - time.time()))
-        piece = os.read(run.stdout.fileno(), 1024) if ready else b""
-        if not piece:
-            return False
-        came += piece
-    return True
-
-
 # Of each protocol but pipeline: what sends on and on whatever --data says, and what prints all that comes.
 ON_AND_ON = (
     (("--rep",), ("--req", "--data", "ping", "--raw", "--interval", "1")),
@@ -266,19 +254,8 @@ def main():
     if not THEIRS:
         print("skipped: no nngcat of nng is installed")
         return 0
-    failed = 0
-    for check in (dialer_comes_first, dialers_of_each_role_come_first, nobody_listens, peers_come_back,
-                  peers_of_each_role_come_back, five_are_served, a_dial_under_way_is_kept, names_meet):
-        if sys.argv[1:] and check.__name__ not in sys.argv[1:]:
-            continue
-        try:
-            well, told = check()
-        except Exception as e:
-            well, told = False, repr(e)
-        failed += not well
-        stop_all()
-        print(f"{'ok    ' if well else 'FAILED'} {check.__name__}: {told}", flush=True)
-    return failed
+    return run_checks((a_dial_under_way_is_kept, names_meet), (dialer_comes_first, dialers_of_each_role_come_first,
+                      nobody_listens, peers_come_back, peers_of_each_role_come_back, five_are_served))
 
 
 if __name__ == "__main__":

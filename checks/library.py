@@ -1,7 +1,8 @@
 #!/usr/bin/env python3
 """Tries the built nngcat against sockets of NNG's own library (Debian's package `libnng1`), which stand in this process.
 
-Skips all where the library isn't there. Each check prints a line; the status is the number of checks that failed.
+The checks go over each transport that OVER names, of tcp and ipc. Skips all where the library isn't there. Each check
+prints a line for each transport; the status is the number of lines that failed.
 """
 import ctypes
 import ctypes.util
@@ -11,7 +12,8 @@ import sys
 import threading
 import time
 
-from outside import OURS, PUSHED, THEIRS, address, begin, connect, free_port, listening, said, start, stop, stop_all
+from outside import (OURS, OVER, PUSHED, THEIRS, Transport, address, begin, connect, free_port, listening, run_checks,
+                     said, start, stop)
 
 WAIT = 20_000  # milliseconds that a call of the library may take
 
@@ -391,8 +393,7 @@ def pair_and_bus_of_the_library():
 def round_trips(program, trips=20_000):
     """The median of a round trip of 8 bytes in microseconds, and trips a second, with this server."""
     port = free_port()
-    run = begin(program, "--rep", "--listen", address(port), "--data", "12345678")
-    connect(port).close()
+    run = listening(program, port, "--rep", "--data", "12345678")
     with Socket("req") as client:
         client.dial(port)
         times = []
@@ -405,19 +406,20 @@ def round_trips(program, trips=20_000):
     return statistics.median(times) * 1e6, trips / sum(times)
 
 
-def measure(pairs=5):
-    """Round trips with ours and nng's as the server, in turn, and the median over the runs of each. The status says how
-    often ours is worse: by the median of a trip, and by the trips a second."""
+def measure(over, pairs=5):
+    """Round trips with ours and nng's as the server, in turn, and the median over the runs of each. Returns how often ours
+    is worse: by the median of a trip, and by the trips a second."""
+    Transport.now = over
     runs = {}
     for name, program in (("ours", OURS), ("nng 1.5.2", THEIRS)) * pairs:
         if program:
             median, rate = round_trips(program)
             runs.setdefault(name, []).append((median, rate))
-            print(f"round trip of 8 bytes: {name} {median:.1f} microseconds, {rate:,.0f} a second", flush=True)
+            print(f"round trip of 8 bytes over {over}: {name} {median:.1f} microseconds, {rate:,.0f} a second", flush=True)
     whole = {}
     for name, measured in runs.items():
         whole[name] = median, rate = tuple(statistics.median(values) for values in zip(*measured))
-        print(f"median of {len(measured)} runs: {name} {median:.1f} microseconds, {rate:,.0f} a second", flush=True)
+        print(f"median of {len(measured)} runs over {over}: {name} {median:.1f} microseconds, {rate:,.0f} a second", flush=True)
     if len(whole) < 2:
         return 0
     (our_median, our_rate), (their_median, their_rate) = whole.values()
@@ -432,21 +434,10 @@ def main():
         print("skipped: the library of nng isn't installed")
         return 0
     if sys.argv[1:] == ["measure"]:
-        return measure()
-    checks = [contexts_ask_ours, replies_to_ours, replier_dies, two_devices, surveys_of_the_library,
-              respondents_of_the_library, topics_of_the_library, pair_and_bus_of_the_library, many_of_the_library]
-    failed = 0
-    for check in checks:
-        if sys.argv[1:] and check.__name__ not in sys.argv[1:]:
-            continue
-        try:
-            well, told = check()
-        except Exception as e:
-            well, told = False, repr(e)
-        failed += not well
-        stop_all()
-        print(f"{'ok    ' if well else 'FAILED'} {check.__name__}: {told}", flush=True)
-    return failed
+        return sum(measure(over) for over in OVER)
+    return run_checks(each=(contexts_ask_ours, replies_to_ours, replier_dies, two_devices, surveys_of_the_library,
+                            respondents_of_the_library, topics_of_the_library, pair_and_bus_of_the_library,
+                            many_of_the_library))
 
 
 if __name__ == "__main__":

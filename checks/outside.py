@@ -1,12 +1,17 @@
 #!/usr/bin/env python3
 """Tries the built nngcat from outside: peers written here, and Debian's nngcat where it is installed.
 
-Skips what is missing. Each check prints a line; the status is the number of checks that failed.
+Most checks go over each transport that OVER names, of tcp and ipc. Skips what is missing. Each check prints a line for
+each transport; the status is the number of lines that failed.
 """
+import atexit
+import contextlib
+import itertools
 import os
 import select
 import shutil
 import socket
+import stat
 import subprocess
 import sys
 import tempfile
@@ -19,6 +24,7 @@ THEIRS = shutil.which("nngcat")
 LINKS = int(os.environ.get("LINKS", "100000"))
 MESSAGES = int(os.environ.get("MESSAGES", "1000000"))
 PUSHED = int(os.environ.get("PUSHED", "100000"))
+OVER = os.environ.get("OVER", "tcp ipc").split()
 
 PAIR = 0x10
 PUSH, PULL = 0x50, 0x51
@@ -27,25 +33,80 @@ SURVEYOR, RESPONDENT = 0x62, 0x63
 PUB, SUB, BUS = 0x20, 0x21, 0x70
 
 
+class Transport:
+    """Over what the checks go now. Over IPC a port is the number of a file, which stands in `folder`."""
+    now = "tcp"
+    folder = None
+    numbers = itertools.count(1)
+
+
+def is_ipc():
+    return Transport.now == "ipc"
+
+
+def path(port):
+    if Transport.folder is None:
+        Transport.folder = tempfile.mkdtemp(prefix="nngcat-")
+        atexit.register(shutil.rmtree, Transport.folder, True)
+    return os.path.join(Transport.folder, str(port))
+
+
+def address(port):
+    return f"ipc://{path(port)}" if is_ipc() else f"tcp://127.0.0.1:{port}"
+
+
+def unconnected():
+    return socket.socket(socket.AF_UNIX if is_ipc() else socket.AF_INET)
+
+
+def place(port):
+    """What `bind` and `connect` of a socket take."""
+    return path(port) if is_ipc() else ("127.0.0.1", port)
+
+
 def free_port():
+    if is_ipc():
+        return next(Transport.numbers)
     with socket.socket() as s:
         s.bind(("127.0.0.1", 0))
         return s.getsockname()[1]
+
+
+@contextlib.contextmanager
+def listener_at(port, waiting=8):
+    """A socket that listens there. Over IPC its file is removed at the end."""
+    with unconnected() as listener:
+        listener.setsockopt(socket.SOL_SOCKET, socket.SO_REUSEADDR, 1)
+        listener.bind(place(port))
+        listener.listen(waiting)
+        try:
+            yield listener
+        finally:
+            if is_ipc():
+                os.unlink(path(port))
 
 
 def greeting(role):
     return b"\0SP\0\0" + bytes([role]) + b"\0\0"
 
 
+def head(size):
+    """What comes before a body of this size."""
+    return (b"\1" if is_ipc() else b"") + size.to_bytes(8, "big")
+
+
 def frame(body):
-    return len(body).to_bytes(8, "big") + body
+    return head(len(body)) + body
 
 
 def connect(port, tries=200):
     for _ in range(tries):
+        peer = unconnected()
         try:
-            return socket.create_connection(("127.0.0.1", port))
+            peer.connect(place(port))
+            return peer
         except OSError:
+            peer.close()
             time.sleep(0.02)
     raise OSError("nobody listens")
 
@@ -59,6 +120,14 @@ def read_all(peer, size):
             break
         came += piece
     return came
+
+
+def next_body(came):
+    """The body of the next frame of a file of bytes; None where it ends, or where the frame begins otherwise."""
+    first = came.read(len(head(0)))
+    if len(first) < len(head(0)) or first[:-8] != head(0)[:-8]:
+        return None
+    return came.read(int.from_bytes(first[-8:], "big"))
 
 
 BEGUN = []
@@ -98,10 +167,30 @@ def stop_all():
     BEGUN.clear()
 
 
+def is_listened_at(file):
+    """Returns whether a Unix socket listens at this path."""
+    with open("/proc/net/unix") as table:
+        rows = [line.split() for line in table]
+    return any(row[3] == "00010000" and row[7:] == [file] for row in rows)
+
+
+def wait_for(port, tries=200):
+    """Waits until somebody listens there. Over IPC without a connection: Debian's listener takes no further one after
+    one that ends before its greeting."""
+    if not is_ipc():
+        connect(port).close()
+        return
+    for _ in range(tries):
+        if is_listened_at(path(port)):
+            return
+        time.sleep(0.02)
+    raise OSError("nobody listens")
+
+
 def listening(program, port, *words):
     """A run that listens at the port, once it does."""
     run = begin(program, *words, "--listen", address(port))
-    connect(port).close()
+    wait_for(port)
     return run
 
 
@@ -109,10 +198,6 @@ def said(runs):
     """What each of the runs that end by themselves prints, without the line feed at its end, and that all went well."""
     outs = [run.communicate(timeout=60)[0].rstrip(b"\n") for run in runs]
     return outs, all(run.returncode == 0 for run in runs)
-
-
-def address(port):
-    return f"tcp://127.0.0.1:{port}"
 
 
 def memory(run):
@@ -308,7 +393,7 @@ def broken_peers():
     run = start("--pull", "--listen", address(port), "--ascii", "--count", "1")
     silent = connect(port)
     dying = connect(port)
-    dying.sendall(greeting(PUSH) + (9).to_bytes(8, "big") + b"abc")
+    dying.sendall(greeting(PUSH) + head(9) + b"abc")
     dying.close()
     other = connect(port)
     other.sendall(greeting(0x30))
@@ -357,7 +442,7 @@ def slow_peer():
     run = start("--push", "--listen", address(port), "--data", body, "--count", "50")
     peer = connect(port)
     peer.sendall(greeting(PULL))
-    wanted = len(greeting(PUSH)) + 50 * (8 + len(body))
+    wanted = len(greeting(PUSH)) + 50 * len(frame(body.encode()))
     parts, came = [], 0
     while came < wanted:
         time.sleep(0.002)
@@ -381,7 +466,7 @@ def longest_message():
         peer.settimeout(20)
         peer.sendall(greeting(PUSH) + frame(longest))
         greeted = read_all(peer, 8) == greeting(PULL) and reads(run, longest)
-        peer.sendall((len(longest) + 1).to_bytes(8, "big"))
+        peer.sendall(head(len(longest) + 1))
         try:
             ended = peer.recv(1) == b""
         except ConnectionResetError:
@@ -436,7 +521,8 @@ def send_times_out():
     run = start("--push", "--listen", address(port), "--data", "x" * 100_000, "--count", "50", "--send-timeout", "1")
     peer = connect(port)
     peer.sendall(greeting(PULL))
-    whole = len(read_all(peer, 8 + 50 * 100_008)) == 8 + 50 * 100_008 and run.wait(timeout=20) == 0
+    wanted = 8 + 50 * len(frame(bytes(100_000)))
+    whole = len(read_all(peer, wanted)) == wanted and run.wait(timeout=20) == 0
     right = silent[1] == slow[1] == 2 and 1.9 < silent[2] < 5 and not slow[0] and slow[2] < 4 and whole
     return right, f"{silent}, {slow}, {whole}"
 
@@ -448,7 +534,7 @@ def first_id(port):
         peer.sendall(greeting(REP))
         came = read_all(peer, len(greeting(REQ) + frame(b"1234q")))
     run.communicate(timeout=60)
-    return came[16:20]
+    return came[-5:-1]
 
 
 def numbers_differ():
@@ -460,12 +546,9 @@ def numbers_differ():
 def peer_that_comes_back():
     """A peer that is dialed dies within its greeting and again within a message, and comes back."""
     port = free_port()
-    with socket.socket() as listener:
-        listener.setsockopt(socket.SOL_SOCKET, socket.SO_REUSEADDR, 1)
-        listener.bind(("127.0.0.1", port))
-        listener.listen(8)
+    with listener_at(port) as listener:
         run = start("--pull", "--dial", address(port), "--ascii", "--count", "1")
-        for text in (b"\0SP", greeting(PUSH) + (9).to_bytes(8, "big") + b"abc"):
+        for text in (b"\0SP", greeting(PUSH) + head(9) + b"abc"):
             peer, _ = listener.accept()
             peer.sendall(text)
             peer.close()
@@ -573,10 +656,7 @@ def asks_one_that_dials(asker, server):
 def asks_one_that_dies(asker, server):
     """A replier takes a request and dies; the one that listens after it gets the request too."""
     port = free_port()
-    with socket.socket() as listener:
-        listener.setsockopt(socket.SOL_SOCKET, socket.SO_REUSEADDR, 1)
-        listener.bind(("127.0.0.1", port))
-        listener.listen(8)
+    with listener_at(port) as listener:
         run = begin(asker, *ASK, "--dial", address(port))
         peer, _ = listener.accept()
         peer.sendall(greeting(REP))
@@ -600,8 +680,7 @@ def answers(peer, body, seconds, times):
     """Answers each survey of a surveyor after `seconds` with `body`, `times` times."""
     with peer, peer.makefile("rb") as came:
         came.read(8)
-        while len(size := came.read(8)) == 8:
-            survey = came.read(int.from_bytes(size, "big"))
+        while (survey := next_body(came)) is not None:
             time.sleep(seconds)
             try:
                 peer.sendall(frame(survey[:4] + body) * times)
@@ -622,18 +701,18 @@ def respondent(port, *how):
 
 def respondent_that_listens(*how):
     """The port of a respondent that listens."""
-    listener = socket.socket()
-    listener.bind(("127.0.0.1", 0))
-    listener.listen(1)
+    port, listens = free_port(), threading.Event()
 
     def serve():
-        with listener:
+        with listener_at(port) as listener:
+            listens.set()
             peer, _ = listener.accept()
         peer.sendall(greeting(RESPONDENT))
         answers(peer, *how)
 
     threading.Thread(target=serve, daemon=True).start()
-    return listener.getsockname()[1]
+    listens.wait()
+    return port
 
 
 SURVEYS = ("--surveyor", "--data", "who", "--ascii", "--interval", "2", "--count", "3")
@@ -882,10 +961,8 @@ def wrong_words():
 
 def faults_name_their_words():
     """A fault of a file or of the net is followed by the words that it may be about."""
-    with socket.socket() as taken:
-        taken.bind(("127.0.0.1", 0))
-        taken.listen(1)
-        port = taken.getsockname()[1]
+    port = free_port()
+    with listener_at(port):
         net = answered("--pull", "--listen", address(port), "--dial=tcp://127.0.0.1:1")
     twice = answered("--bus", "--listen", "inproc://x", "--dial", "inproc://x", "--listen=inproc://x")
     lost = answered("--push", "--listen", address(free_port()), "--file", "no such\tfile")
@@ -970,8 +1047,7 @@ def plays_against(port, role, first, answer, heard):
         with peer, peer.makefile("rb") as came:
             came.read(8)
             try:
-                while len(size := came.read(8)) == 8:
-                    body = came.read(int.from_bytes(size, "big"))
+                while (body := next_body(came)) is not None:
                     heard.append((time.time(), body))
                     if answer is not None:
                         peer.sendall(frame(answer(body)))
@@ -1104,33 +1180,244 @@ def whole_table():
     return not other and known == END_OTHERWISE, f"{count} rows, of which {known} end otherwise, other: {other}"
 
 
-def main():
-    if not os.access(OURS, os.X_OK):
-        print("skipped: crates/nngcat/out/nngcat isn't built")
-        return 0
-    checks = [help_and_version, wrong_words, faults_name_their_words, standard_input, empty_input, completion,
-              manual_page, broken_peers, slow_reader, slow_peer, longest_message, full_output, send_times_out,
-              numbers_differ, peer_that_comes_back, words_of_devices, idle_rounds_allocate_nothing, many_links, many_messages,
-              many_pushed]
-    if THEIRS:
-        checks += [theirs_to_ours, theirs_pulls_from_ours, ours_to_theirs, four_of_theirs, theirs_is_dialed,
-                   replies_to_theirs, answers_theirs, pairs_with_theirs, pair_takes_the_next, requests, surveys,
-                   bus_of_four, publishes, formats_of_theirs, many_with_theirs, whole_table]
-    else:
-        print("skipped: no nngcat of nng is installed")
-    wanted = sys.argv[1:]
+# ---- Paths of IPC
+
+PULL_ONE = ("--pull", "--ascii", "--count", "1")
+PUSH_ONE = ("--push", "--data", "hello")
+
+
+def is_socket(port):
+    return os.path.exists(path(port)) and stat.S_ISSOCK(os.stat(path(port)).st_mode)
+
+
+def refused(port, why):
+    """What `answered` returns where the system refuses this address."""
+    return 4, b"", f"nngcat: network fault\nnngcat: {address(port)}: {why}\n".encode()
+
+
+def a_path_that_is_there():
+    """A listen at a path where something is ends with status 4, names it and changes nothing: where somebody listens,
+    where one that was killed listened, and at a file. A run makes its file, which stays when it ends."""
+    port = free_port()
+    words = (*PULL_ONE, "--listen", address(port))
+    first = listening(OURS, port, *PULL_ONE)
+    told = [answered(*words) == refused(port, "address in use")]
+    stop(first)
+    told.append(is_socket(port) and answered(*words) == refused(port, "address in use") and is_socket(port))
+    os.unlink(path(port))
+    run = listening(OURS, port, *PULL_ONE)
+    with connect(port) as peer:
+        peer.sendall(greeting(PUSH) + frame(b"hello"))
+        told.append(said([run]) == ([b"hello"], True) and is_socket(port))
+    os.unlink(path(port))
+    with open(path(port), "wb") as file:
+        file.write(b"mine")
+    told.append(answered(*words) == refused(port, "address in use"))
+    with open(path(port), "rb") as file:
+        told.append(file.read() == b"mine")
+    return all(told), f"{told}"
+
+
+def theirs_takes_a_path_over():
+    """Debian's nngcat listens at a path that ours left, and removes it at its end."""
+    port = free_port()
+    stop(listening(OURS, port, *PULL_ONE))
+    left = is_socket(port)
+    run = listening(THEIRS, port, *PULL_ONE)
+    outs, well = said([run, start(*PUSH_ONE, "--dial", address(port))])
+    return well and left and outs == [b"hello", b""] and not os.path.exists(path(port)), f"{left}, {outs}"
+
+
+def a_path_where_nobody_listens():
+    """A dial of a path that isn't there, and of one whose listener was killed, is no fault: it times out; and it is made
+    again until somebody listens, ours or Debian's."""
+    told = []
+    for program, left in ((OURS, False), (OURS, True), (THEIRS, False), (THEIRS, True)):
+        port = free_port()
+        if left:
+            stop(listening(OURS, port, *PULL_ONE))
+        told.append(answered("--pull", "--recv-timeout", "1", "--dial", address(port)) == (0, b"", b""))
+        run = start(*PUSH_ONE, "--dial", address(port))
+        time.sleep(1)
+        told.append(run.poll() is None)
+        if left:
+            os.unlink(path(port))
+        told.append(said([begin(program, *PULL_ONE, "--listen", address(port)), run]) == ([b"hello", b""], True))
+    return all(told), f"{told}"
+
+
+def ours_is_killed_and_comes_back():
+    """Our pull is killed while Debian's push and ours dial it, and is served by both again, once its path is removed."""
+    port, came = free_port(), []
+    pushes = [begin(program, "--push", "--data", text, "--interval", "1", *more, "--dial", address(port))
+              for program, text, more in ((OURS, "a", ()), (THEIRS, "b", ("--async",)))]
+    for _ in range(3):
+        run = begin(OURS, "--pull", "--raw", "--listen", address(port))
+        came.append(shows(run, b"a", b"b"))
+        stop(run)
+        os.unlink(path(port))
+    stays = all(push.poll() is None for push in pushes)
+    stop(*pushes)
+    return all(came) and stays, f"{came}"
+
+
+def shows(run, *wanted, seconds=20):
+    """Returns whether a run that goes on prints each of these, in any order and among other bytes, within `seconds`."""
+    came, until = b"", time.time() + seconds
+    while not all(text in came for text in wanted):
+        ready, _, _ = select.select([run.stdout], [], [], max(0, until - time.time()))
+        piece = os.read(run.stdout.fileno(), 1024) if ready else b""
+        if not piece:
+            return False
+        came += piece
+    return True
+
+
+def meet_at(server, dialer, place):
+    """Returns whether a message comes over between two runs at this path."""
+    pull = begin(server, *PULL_ONE, "--listen", f"ipc://{place}")
+    while not is_listened_at(place) and pull.poll() is None:
+        time.sleep(0.02)
+    well = said([pull, begin(dialer, *PUSH_ONE, "--dial", f"ipc://{place}")]) == ([b"hello", b""], True)
+    if os.path.exists(place):
+        os.unlink(place)
+    return well
+
+
+def long_paths():
+    """A path of 100 bytes is listened at and dialed, ours to Debian's and the other way; one of 101 is no address, from
+    its last byte on. So are an empty path and one with a space."""
+    place = path("").ljust(100, "a")
+    told = [meet_at(*pair, place) for pair in ((OURS, OURS), (OURS, THEIRS), (THEIRS, OURS))]
+    for word, at, rest in ((f"ipc://{place}b", 106, "b"), ("ipc://", 6, ""), ("ipc:///tmp/a b", 12, " b")):
+        for option in ("--listen", "--dial"):
+            lines = (f'nngcat: bad word 2\nnngcat: see nngcat --help; can\'t go on with "{word}"\n'
+                     f'nngcat: no address goes on at byte {at} with "{rest}"\n')
+            told.append(answered("--pull", option, word) == (1, b"", lines.encode()))
+    return all(told), f"{told}"
+
+
+def a_full_path_holds_nobody_up():
+    """A listener that has no room for one more isn't waited for: another end is served meanwhile, and this one later."""
+    full, other = free_port(), free_port()
+    with listener_at(full, 0) as listener, connect(full):
+        push = listening(OURS, other, "--push", "--data", "first")
+        run = start("--pull", "--ascii", "--count", "2", "--dial", address(full), "--dial", address(other))
+        told = [reads(run, b"first\n"), said([push]) == ([b""], True)]
+        listener.accept()[0].close()
+        peer, _ = listener.accept()
+        with peer:
+            peer.sendall(greeting(PUSH) + frame(b"second"))
+            told.append(said([run]) == ([b"second"], True))
+    return all(told), f"{told}"
+
+
+def is_over(peer):
+    """Returns whether the peer has ended its side, or reset it."""
+    try:
+        return peer.recv(1) == b""
+    except ConnectionResetError:
+        return True
+
+
+def another_byte_ends_its_link():
+    """A peer that sends another byte than 01 where a frame begins ends its own link alone, at once: first, and after a
+    message. One that is held meanwhile is served, and so is the next, of those that dial and of those that are dialed."""
+    port = free_port()
+    run = start("--pull", "--listen", address(port), "--ascii", "--count", "4")
+    with connect(port) as held:
+        held.settimeout(20)
+        held.sendall(greeting(PUSH))
+        told = [read_all(held, 8) == greeting(PULL)]
+        for text, printed in ((b"\2", b""), (b"\0" * 9, b""), (frame(b"one") + b"\0", b"one\n")):
+            with connect(port) as peer:
+                peer.settimeout(20)
+                peer.sendall(greeting(PUSH) + text)
+                told.append(read_all(peer, 8) == greeting(PULL) and reads(run, printed) and is_over(peer))
+        held.sendall(frame(b"two"))
+        told.append(reads(run, b"two\n"))
+        with connect(port) as peer:
+            peer.sendall(greeting(PUSH) + frame(b"three"))
+            told.append(reads(run, b"three\n"))
+        held.sendall(frame(b"four"))
+        told.append(said([run]) == ([b"four"], True))
+    port = free_port()
+    with listener_at(port) as listener:
+        run = start(*PULL_ONE, "--dial", address(port))
+        for text in (b"\2", frame(b"again")):
+            peer, _ = listener.accept()
+            with peer:
+                peer.settimeout(20)
+                peer.sendall(greeting(PUSH) + text)
+                told.append(read_all(peer, 8) == greeting(PULL) and is_over(peer))
+        told.append(said([run]) == ([b"again"], True))
+    return all(told), f"{told}"
+
+
+def no_permission():
+    """Another user may connect as the mode of the file says, which the umask sets. Where it may not, its dial is made
+    again until it may; where it may not make a file, its listen ends with status 4 and names it."""
+    if os.geteuid() != 0:
+        return True, "skipped, not root"
+    port, told = free_port(), []
+    ours = os.path.join(Transport.folder or os.path.dirname(path(port)), "nngcat")
+    shutil.copy(OURS, ours)
+    os.chmod(Transport.folder, 0o755)
+    nobody = {"user": 65534, "group": 65534, "extra_groups": [], "cwd": "/"}
+    push = lambda **more: begin(ours, *PUSH_ONE, "--dial", address(port), **more)
+    run = subprocess.run([ours, *PULL_ONE, "--listen", address(port)], stdout=subprocess.PIPE, stderr=subprocess.PIPE,
+                         timeout=60, **nobody)
+    told.append((run.returncode, run.stdout, run.stderr) == refused(port, "permission denied"))
+    told.append(not os.path.exists(path(port)))
+    run = begin(OURS, *PULL_ONE, "--listen", address(port), umask=0o077)
+    connect(port).close()
+    told.append(stat.S_IMODE(os.stat(path(port)).st_mode) == 0o700)
+    other = push(**nobody)
+    time.sleep(1)
+    told.append(other.poll() is None and run.poll() is None)
+    os.chmod(path(port), 0o777)
+    told.append(said([run, other]) == ([b"hello", b""], True))
+    return all(told), f"{told}"
+
+
+def run_checks(once=(), each=(), ipc=()):
+    """Runs the checks that the words name, or all: those that no transport is for, those for each transport, and those
+    for IPC. Prints a line for each, and returns how many failed."""
+    rows = [(check, None) for check in once] + [(check, over) for over in OVER for check in each]
+    rows += [(check, "ipc") for check in ipc if "ipc" in OVER]
     failed = 0
-    for check in checks:
-        if wanted and check.__name__ not in wanted:
+    for check, over in rows:
+        if sys.argv[1:] and check.__name__ not in sys.argv[1:]:
             continue
+        Transport.now = over or "tcp"
         try:
             well, told = check()
         except Exception as e:
             well, told = False, repr(e)
         failed += not well
         stop_all()
-        print(f"{'ok    ' if well else 'FAILED'} {check.__name__}: {told}", flush=True)
+        where = f" over {over}" if over else ""
+        print(f"{'ok    ' if well else 'FAILED'} {check.__name__}{where}: {told}", flush=True)
     return failed
+
+
+def main():
+    if not os.access(OURS, os.X_OK):
+        print("skipped: crates/nngcat/out/nngcat isn't built")
+        return 0
+    once = [help_and_version, wrong_words, completion, manual_page]
+    each = [faults_name_their_words, standard_input, empty_input, broken_peers, slow_reader, slow_peer, longest_message,
+            full_output, send_times_out, numbers_differ, peer_that_comes_back, words_of_devices,
+            idle_rounds_allocate_nothing, many_links, many_messages, many_pushed]
+    ipc = [a_path_that_is_there, a_full_path_holds_nobody_up, another_byte_ends_its_link, no_permission]
+    if THEIRS:
+        each += [theirs_to_ours, theirs_pulls_from_ours, ours_to_theirs, four_of_theirs, theirs_is_dialed,
+                 replies_to_theirs, answers_theirs, pairs_with_theirs, pair_takes_the_next, requests, surveys,
+                 bus_of_four, publishes, formats_of_theirs, many_with_theirs, whole_table]
+        ipc += [theirs_takes_a_path_over, a_path_where_nobody_listens, ours_is_killed_and_comes_back, long_paths]
+    else:
+        print("skipped: no nngcat of nng is installed")
+    return run_checks(once, each, ipc)
 
 
 if __name__ == "__main__":

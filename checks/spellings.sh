@@ -21,13 +21,15 @@ is '--pull --listen tcp://127.0.0.1:5555 --ascii --count 3' --pull -L 5555 -A -C
 is '--pull --dial tcp://127.0.0.1:1 --hex' --pull --connect=tcp://127.0.0.1:1 --format hex -q -v
 is '--pull --dial tcp://127.0.0.1:1' --pull --connect:tcp://127.0.0.1:1 --format no --async --silent
 is '--push --dial tcp://127.0.0.1:1 --file -' --push --dial tcp://127.0.0.1:1 -F -
+is '--pull --listen ipc:///tmp/a' --pull -X /tmp/a
+is '--push --dial ipc://a --data x' --push --connect-ipc=a -Dx
+is '--pull --listen ipc:///tmp/a --dial ipc://b' --pull --bind-ipc /tmp/a -xb
 is '--pair0 --dial tcp://127.0.0.1:1 --recv-timeout 5 --msgpack' --pair0 --dial tcp://127.0.0.1:1 --recv-t 5 --msg
 is '--surveyor --listen tcp://127.0.0.1:1 --data who --quoted' --surveyor --listen tcp://127.0.0.1:1 --data who -Q
 is '--bus --listen tcp://127.0.0.1:1 --data a=b' --bus --listen tcp://127.0.0.1:1 --data=a=b
 is refused --pull --delay 1 --dial tcp://127.0.0.1:1
 is refused --pull --compat --dial tcp://127.0.0.1:1
 is refused --pull -Z 100 --dial tcp://127.0.0.1:1
-is refused --pull -X /tmp/a
 is refused --pair1 --dial tcp://127.0.0.1:1
 is refused --p --dial tcp://127.0.0.1:1
 is refused --pull --nothing

@@ -24,8 +24,8 @@ Endpoints (1 to 64 in all):
   --dial ADDRESS          connect to ADDRESS, again 100 ms after failure or end
   ADDRESS is tcp://HOST:PORT or ws://HOST:PORT/PATH. HOST is *, localhost, or
   four numbers with dots; PORT is 0 to 65535. --dial takes neither * nor port 0.
-  Or ipc://PATH, for this machine: PATH is 1 to 100 visible characters; --listen
-  makes this file, which must not be there yet, and leaves it.
+  Or ipc://PATH, on this machine: PATH is 1 to 100 visible characters. --listen
+  makes this file, which must not be there before, and leaves it at the end.
   Or inproc://NAME, for this command alone: NAME is 1 to 128 visible characters.
 
 Data (push, pub, req and surveyor need one of the two, pull and sub take none):

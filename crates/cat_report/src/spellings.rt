@@ -4,6 +4,10 @@ const LISTEN: &str = "--listen tcp://127.0.0.1:PORT";
 
 const DIAL: &str = "--dial tcp://127.0.0.1:PORT";
 
+const LISTEN_AT_PATH: &str = "--listen ipc://PATH";
+
+const DIAL_PATH: &str = "--dial ipc://PATH";
+
 const FORMATS: &str = "--raw, --ascii, --quoted, --hex, --msgpack or none of them";
 
 const PAIR: &str = "--pair, to a peer that speaks version 0 of the protocol";
@@ -25,6 +29,8 @@ pub fn spelling_of(name: &str) -> Option<&'static str> {
         "--connect" => Some("--dial"),
         "-L" | "--bind-local" => Some(LISTEN),
         "-l" | "--connect-local" => Some(DIAL),
+        "-X" | "--bind-ipc" => Some(LISTEN_AT_PATH),
+        "-x" | "--connect-ipc" => Some(DIAL_PATH),
         "--format" => Some(FORMATS),
         "--pair1" => Some(PAIR),
         _ => nothing_for(name),
@@ -34,7 +40,6 @@ pub fn spelling_of(name: &str) -> Option<&'static str> {
 // The same for options without a replacement.
 fn nothing_for(name: &str) -> Option<&'static str> {
     match name {
-        "-X" | "--bind-ipc" | "-x" | "--connect-ipc" => Some(NOTHING),
         "-d" | "--delay" | "-Z" | "--recv-maxsz" => Some(NOTHING),
         "-q" | "--silent" | "-v" | "--verbose" => Some(NOTHING),
         "--compat" | "--async" | "--zt-home" => Some(NOTHING),

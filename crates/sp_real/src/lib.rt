@@ -6,10 +6,11 @@
 //! A link that gave 256 KiB since it last had nothing returns once that nothing is there, and the next rest is skipped.
 //! So a reader that reads until nothing is there reads a bounded number of bytes, whatever the peer sends.
 //!
-//! `link` has links, `stream` their streams, `tcp` the net, `dial` its connections under way, `leave` the links that it got back, `pace` the
-//! clock, `output` standard output, `files` files and standard input, `fault` why something failed. `wake` has the
-//! links that are to be read, by what the machine reported for their sockets; links, net and pace share it. `back` has
-//! the links that a net got back, as contracts see them. `side` makes net and clock for a program, and ends them.
+//! `link` has links, `stream` their streams, `tcp` the net, `dial` its connections under way, `leave` the links that it
+//! got back, `pace` the clock, `output` standard output, `files` files and standard input, `fault` why something failed.
+//! `wake` has the links that are to be read, by what the machine reported for their sockets; links, net and pace share
+//! it. `back` has the links that a net got back, as contracts see them. `side` makes net and clock for a program, and
+//! ends them.
 #![tactic(auto)]
 
 mod back;

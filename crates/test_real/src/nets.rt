@@ -9,6 +9,7 @@
 //! | `reaches one 28195` | a listener at one address of this machine is reached there, and not at another one |
 //! | `reaches every 28235` | a listener at every address is reached at both |
 //! | `local socket_of_a_test` | the path isn't there; then a byte goes there and back, the path is in use, and stays |
+//! | `file file_of_a_test` | at a file nobody listens, and a listen fails; at a path below it both fail |
 //! | `rests 3 3` | after 3 quiet turns the tick is 3 or later |
 //! | `looks_again 101 5 5 50` | after 101 quiet turns the shortest of 5 rests takes 5 to 50 milliseconds |
 //!
@@ -345,6 +346,38 @@ fn talks_locally<S: Files, N: Net, P: Pace>(
     Some(talked && fs::remove_file(system, path).is_ok())
 }
 
+// Returns whether a dial is a fault.
+fn is_failed<N: Net>(net: &mut N, addr: &Addr) -> bool
+    requires { is_dialable addr.now ≡ true }
+{
+    match net.dial(addr) {
+        Linked::Failed => true,
+        Linked::NotYet | Linked::Begun => false,
+        Linked::Got(link) => {
+            done(net, link);
+            false
+        }
+    }
+}
+
+// Makes a file with this name, where nobody listens and no listen is possible, nor below it; then removes it.
+fn is_no_socket<S: Files, N: Net>(
+    system: &S,
+    net: &mut N,
+    alloc: Global,
+    name: &str,
+) -> Option<bool> {
+    let there = local(alloc, name)?;
+    let below = format!(in alloc; "{name}/a").ok()?;
+    let below = local(alloc, below.as_str())?;
+    fs::write(system, name, b"mine").ok()?;
+    let nobody = is_refused(net, &there);
+    let taken = matches!(net.listen(&there), Listened::Failed);
+    let both = is_failed(net, &below) && matches!(net.listen(&below), Listened::Failed);
+    let kept = fs::remove_file(system, name).is_ok();
+    Some(nobody && taken && both && kept)
+}
+
 // Returns whether all went well at `count` of 30 ports; `None` where too few were free.
 fn talks_from<N: Net, P: Pace>(net: &mut N, pace: &mut P, count: u32, first: u16) -> Option<bool> {
     let mut well = 0u32;
@@ -489,6 +522,9 @@ fn is_so<S: std::net::Net + Files, N: Net, P: Pace>(
     }
     if name == "local" {
         return talks_locally(system, net, pace, alloc, words);
+    }
+    if name == "file" {
+        return is_no_socket(system, net, alloc, words);
     }
     let (word, port) = words.split_once(' ')?;
     let port = port.parse::<u16>().ok()?;

@@ -252,10 +252,10 @@ fn a_spelling_of_nngs_own_is_answered_on_the_second_line(rt: HostRuntime) {
         --format=--raw, --ascii, --quoted, --hex, --msgpack or none of them
         -h=--help
         -V=--version
-        -X=nothing stands in its place here
-        --bind-ipc=nothing stands in its place here
-        -x=nothing stands in its place here
-        --connect-ipc=nothing stands in its place here
+        -X=--listen ipc://PATH
+        --bind-ipc=--listen ipc://PATH
+        -x=--dial ipc://PATH
+        --connect-ipc=--dial ipc://PATH
         -d=nothing stands in its place here
         --delay=nothing stands in its place here
         -Z=nothing stands in its place here

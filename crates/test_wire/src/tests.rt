@@ -556,9 +556,45 @@ fn ipc(
     }
 }
 
-// Returns whether a wire of IPC gives `wanted` from pieces of each length up to 10.
+// What the bytes of a link of IPC show, message by message, with the plain reader behind each byte before a size.
+fn plainly_over_ipc(rt: &impl Abort, alloc: Global, bytes: &[u8], max: u32) -> Vec<u8> {
+    let mut said = Vec::new(alloc);
+    let mut left = bytes;
+    for _ in 0..200 {
+        let Some((first, behind)) = left.split_first() else {
+            made(rt, said.push(b'e'));
+            return said;
+        };
+        if *first != 1 {
+            made(rt, said.push(b'x'));
+            return said;
+        }
+        let mut reader = Reader::new(alloc);
+        made(rt, reader.append(behind));
+        match reader.front(max) {
+            Prefix::Message(body) => {
+                made(rt, said.push(b'['));
+                made(rt, said.extend_from_slice(body));
+                made(rt, said.push(b']'));
+                left = &behind[body.len().saturating_add(8).min(behind.len())..];
+            }
+            Prefix::Part => {
+                made(rt, said.push(b'e'));
+                return said;
+            }
+            Prefix::Oversize => {
+                made(rt, said.push(b'x'));
+                return said;
+            }
+        }
+    }
+    said
+}
+
+// Returns whether a wire of IPC gives `wanted` from pieces of each length up to 10, and so does the plain reading.
 fn ipc_gives<R: Wait + Abort>(alloc: Global, rt: &R, bytes: &[u8], wanted: &[u8]) -> bool {
-    let mut all = true;
+    let plain = plainly_over_ipc(rt, alloc, bytes, 3);
+    let mut all = plain.as_slice() == wanted;
     for piece in 1..11 {
         let mut wire = ipc(rt, alloc, bytes, piece, 1, 3);
         let said = pulls(alloc, rt, &mut wire);
@@ -573,10 +609,6 @@ fn a_wire_of_ipc_reads_a_byte_before_each_size(rt: HostRuntime) {
     // two messages, the second of no bytes
     let bytes = b"\x01\x00\x00\x00\x00\x00\x00\x00\x02hi\x01\x00\x00\x00\x00\x00\x00\x00\x00";
     holds(&rt, ipc_gives(alloc, &rt, bytes, b"[hi][]e"));
-    // the end after the byte, and within a size
-    let bytes = b"\x01\x00\x00\x00\x00\x00\x00\x00\x02hi\x01";
-    holds(&rt, ipc_gives(alloc, &rt, bytes, b"[hi]e"));
-    holds(&rt, ipc_gives(alloc, &rt, b"\x01\x00\x00\x00", b"e"));
     // another byte, after a message and first
     let bytes = b"\x01\x00\x00\x00\x00\x00\x00\x00\x02hi\x00";
     holds(&rt, ipc_gives(alloc, &rt, bytes, b"[hi]x"));
@@ -586,6 +618,21 @@ fn a_wire_of_ipc_reads_a_byte_before_each_size(rt: HostRuntime) {
     holds(&rt, ipc_gives(alloc, &rt, bytes, b"x"));
     let bytes = b"\x01\x00\x00\x00\x00\x00\x00\x00\x03abc";
     holds(&rt, ipc_gives(alloc, &rt, bytes, b"[abc]e"));
+}
+
+#[test]
+fn a_stream_of_ipc_ends_at_each_place(rt: HostRuntime) {
+    let alloc = rt.alloc();
+    let bytes = b"\x01\x00\x00\x00\x00\x00\x00\x00\x02hi\x01\x00\x00\x00\x00\x00\x00\x00\x01a\x00";
+    // within the first message, its byte alone and with 1 to 7 bytes of its size too
+    for end in 0..11 {
+        holds(&rt, ipc_gives(alloc, &rt, &bytes[..end], b"e"));
+    }
+    for end in 11..21 {
+        holds(&rt, ipc_gives(alloc, &rt, &bytes[..end], b"[hi]e"));
+    }
+    holds(&rt, ipc_gives(alloc, &rt, &bytes[..21], b"[hi][a]e"));
+    holds(&rt, ipc_gives(alloc, &rt, bytes, b"[hi][a]x"));
 }
 
 #[test]
