@@ -38,7 +38,10 @@ fn main(rt: HostRuntime) -> Result<()> {
     };
     let listened = ends.listen(&address).context(&address);
     let mut pull = ends.start();
-    let received = listened.and_then(|()| receive(&rt, &mut pull));
+    let received = match listened {
+        Ok(()) => receive(&rt, &mut pull),
+        Err(why) => Err(why),
+    };
     let _ = end_side(pull.finish().side());
     received
 }

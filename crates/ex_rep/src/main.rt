@@ -39,7 +39,10 @@ fn main(rt: HostRuntime) -> Result<()> {
     };
     let listened = ends.listen(&address).context(&address);
     let mut rep = ends.start();
-    let answered = listened.and_then(|()| answer(&rt, &mut rep));
+    let answered = match listened {
+        Ok(()) => answer(&rt, &mut rep),
+        Err(why) => Err(why),
+    };
     let _ = end_side(rep.finish().side());
     answered
 }

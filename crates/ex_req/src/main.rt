@@ -41,7 +41,10 @@ fn main(rt: HostRuntime) -> Result<()> {
     };
     let dialed = ends.dial(&address).context(&address);
     let mut req = ends.start();
-    let asked = dialed.and_then(|()| ask(&rt, &mut req));
+    let asked = match dialed {
+        Ok(()) => ask(&rt, &mut req),
+        Err(why) => Err(why),
+    };
     let _ = end_side(req.finish().side());
     asked
 }

@@ -39,7 +39,10 @@ fn main(rt: HostRuntime) -> Result<()> {
     };
     let dialed = ends.dial(&address).context(&address);
     let mut sub = ends.start();
-    let received = dialed.and_then(|()| receive(&rt, &mut sub));
+    let received = match dialed {
+        Ok(()) => receive(&rt, &mut sub),
+        Err(why) => Err(why),
+    };
     let _ = end_side(sub.finish().side());
     received
 }
