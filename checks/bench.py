@@ -40,6 +40,16 @@ def frames(size, count):
     return frame(b"x" * size) * count
 
 
+def closed(peer):
+    """Closes this side once the program has closed its own, which otherwise waits for it."""
+    try:
+        while peer.recv(1 << 16):
+            pass
+    except OSError:
+        pass
+    peer.close()
+
+
 def pull_rate(program, size, count):
     """Messages a second that a pull prints into a file of nothing."""
     port = free_port()
@@ -58,9 +68,9 @@ def pull_rate(program, size, count):
         except OSError:
             break
         left -= n
+    closed(peer)
     run.wait(timeout=300)
     took = time.time() - begun
-    peer.close()
     return count / took
 
 
@@ -80,8 +90,8 @@ def push_rate(program, size, count):
                 break
             came += n
         took = time.time() - begun
+        closed(peer)
         run.wait(timeout=60)
-        peer.close()
     return came / len(frames(size, 1)) / took
 
 
@@ -102,8 +112,8 @@ def latency(program, count=200):
         while came < 16:
             came += len(os.read(run.stdout.fileno(), 16 - came))
         times.append(time.time() - begun)
+    closed(peer)
     run.wait(timeout=60)
-    peer.close()
     return statistics.median(times) * 1000
 
 
