@@ -15,7 +15,7 @@ import sys
 import threading
 import time
 
-from outside import (OURS, OVER, PULL, PUSH, REQ, THEIRS, Transport, address, connect, frame, free_port, greeting, head, is_ipc,
+from outside import (OURS, OVER, PULL, PUSH, REQ, THEIRS, Transport, address, closed, connect, frame, free_port, greeting, head, is_ipc,
                      listener_at, read_all, wait_for)
 
 SIZES = [(16, 200_000), (1024, 200_000), (65536, 8_000)]
@@ -38,16 +38,6 @@ def at_once(s):
 
 def frames(size, count):
     return frame(b"x" * size) * count
-
-
-def closed(peer):
-    """Closes this side once the program has closed its own, which otherwise waits for it."""
-    try:
-        while peer.recv(1 << 16):
-            pass
-    except OSError:
-        pass
-    peer.close()
 
 
 def pull_rate(program, size, count):

@@ -122,6 +122,16 @@ def read_all(peer, size):
     return came
 
 
+def closed(peer):
+    """Closes this side once the program has closed its own, which otherwise waits for it."""
+    try:
+        while peer.recv(1 << 16):
+            pass
+    except OSError:
+        pass
+    peer.close()
+
+
 def next_body(came):
     """The body of the next frame of a file of bytes; None where it ends, or where the frame begins otherwise."""
     first = came.read(len(head(0)))

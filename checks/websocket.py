@@ -12,7 +12,7 @@ import subprocess
 import sys
 import time
 
-from outside import OURS, THEIRS, begin, connect, free_port, read_all, said, start, stop
+from outside import OURS, THEIRS, begin, closed, connect, free_port, read_all, said, start, stop
 
 GUID = b"258EAFA5-E914-47DA-95CA-C5AB0DC85B11"
 NONCE = b"dGhlIHNhbXBsZSBub25jZQ=="
@@ -447,9 +447,9 @@ def measure():
         begun = time.time()
         for _ in range(count // 100):
             peer.sendall(chunk)
+        closed(peer)
         run.wait(timeout=120)
         print(f"pull over WebSocket, 1 KiB: {name} {count / (time.time() - begun):,.0f} messages/s", flush=True)
-        peer.close()
         print(f"push over WebSocket, 1 KiB: {name} {push_rate(program, count):,.0f} messages/s", flush=True)
         port = free_port()
         run = begin(program, "--rep", "--listen", address(port), "--data", "12345678")
