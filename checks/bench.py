@@ -15,10 +15,10 @@ import sys
 import threading
 import time
 
-from outside import (OURS, OVER, PULL, PUSH, REQ, THEIRS, Transport, address, closed, connect, frame, free_port, greeting, head, is_ipc,
+from outside import (OURS, OVER, PULL, PUSH, REQ, THEIRS, Transport, address, connect, frame, free_port, greeting, head, is_ipc,
                      listener_at, read_all, wait_for)
 
-SIZES = [(16, 200_000), (1024, 200_000), (65536, 8_000)]
+SIZES = [(16, 2_000_000), (1024, 1_000_000), (65536, 100_000)]
 DRILLS = [100_000]
 BODIES = 300
 FORMS = ("--raw", "--msgpack", "--hex", "--quoted", "--ascii")
@@ -58,9 +58,15 @@ def pull_rate(program, size, count):
         except OSError:
             break
         left -= n
-    closed(peer)
-    run.wait(timeout=300)
+    # It shuts its side when all is printed.
+    try:
+        while peer.recv(1 << 16):
+            pass
+    except ConnectionResetError:
+        pass
     took = time.time() - begun
+    peer.close()
+    run.wait(timeout=300)
     return count / took
 
 
@@ -80,7 +86,7 @@ def push_rate(program, size, count):
                 break
             came += n
         took = time.time() - begun
-        closed(peer)
+        peer.close()
         run.wait(timeout=60)
     return came / len(frames(size, 1)) / took
 
@@ -102,7 +108,7 @@ def latency(program, count=200):
         while came < 16:
             came += len(os.read(run.stdout.fileno(), 16 - came))
         times.append(time.time() - begun)
-    closed(peer)
+    peer.close()
     run.wait(timeout=60)
     return statistics.median(times) * 1000
 

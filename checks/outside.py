@@ -1229,13 +1229,25 @@ def a_path_that_is_there():
 
 
 def theirs_takes_a_path_over():
-    """Debian's nngcat listens at a path that ours left, and removes it at its end."""
+    """Debian's nngcat replaces what is at a path where nobody listens, a socket that ours left or any file, and leaves
+    its own; where somebody listens it ends with 1."""
+    told = []
+    for left in (True, False):
+        port = free_port()
+        if left:
+            stop(listening(OURS, port, *PULL_ONE))
+        else:
+            with open(path(port), "wb") as file:
+                file.write(b"mine")
+        told.append(is_socket(port) == left)
+        run = listening(THEIRS, port, *PULL_ONE)
+        told.append(said([run, start(*PUSH_ONE, "--dial", address(port))]) == ([b"hello", b""], True) and is_socket(port))
     port = free_port()
-    stop(listening(OURS, port, *PULL_ONE))
-    left = is_socket(port)
-    run = listening(THEIRS, port, *PULL_ONE)
-    outs, well = said([run, start(*PUSH_ONE, "--dial", address(port))])
-    return well and left and outs == [b"hello", b""] and not os.path.exists(path(port)), f"{left}, {outs}"
+    with listener_at(port):
+        run = subprocess.run([THEIRS, *PULL_ONE, "--listen", address(port)], stdout=subprocess.PIPE, stderr=subprocess.PIPE,
+                             timeout=60)
+        told.append((run.returncode, run.stdout) == (1, b"") and b"Address in use" in run.stderr)
+    return all(told), f"{told}"
 
 
 def a_path_where_nobody_listens():
