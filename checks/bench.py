@@ -15,7 +15,7 @@ import sys
 import threading
 import time
 
-from outside import (OURS, OVER, PULL, PUSH, REQ, THEIRS, Transport, address, connect, frame, free_port, greeting, head, is_ipc,
+from outside import (OURS, OVER, PULL, PUSH, REQ, THEIRS, Transport, address, closed, connect, frame, free_port, greeting, head, is_ipc,
                      listener_at, read_all, wait_for)
 
 SIZES = [(16, 2_000_000), (1024, 1_000_000), (65536, 100_000)]
@@ -59,13 +59,8 @@ def pull_rate(program, size, count):
             break
         left -= n
     # It shuts its side when all is printed.
-    try:
-        while peer.recv(1 << 16):
-            pass
-    except ConnectionResetError:
-        pass
+    closed(peer)
     took = time.time() - begun
-    peer.close()
     run.wait(timeout=300)
     return count / took
 
