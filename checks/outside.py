@@ -373,7 +373,9 @@ def slow_reader():
     os.close(writer)
     peer = connect(port)
     body = bytes(range(250)) * 40
-    peer.sendall(greeting(PUSH) + frame(body) * 40)
+    text = greeting(PUSH) + frame(body) * 40
+    sending = threading.Thread(target=peer.sendall, args=(text,), daemon=True)
+    sending.start()
     time.sleep(1)
     parts = []
     while True:
@@ -382,6 +384,7 @@ def slow_reader():
             break
         parts.append(piece)
     run.wait(timeout=60)
+    sending.join(timeout=60)
     peer.close()
     os.close(reader)
     return b"".join(parts) == body * 40 and run.returncode == 0, f"status {run.returncode}"
