@@ -383,7 +383,9 @@ def slow_reader():
     os.close(writer)
     peer = connect(port)
     body = bytes(range(250)) * 40
-    peer.sendall(greeting(PUSH) + frame(body) * 40)
+    text = greeting(PUSH) + frame(body) * 40
+    sending = threading.Thread(target=peer.sendall, args=(text,), daemon=True)
+    sending.start()
     time.sleep(1)
     parts = []
     while True:
@@ -392,6 +394,7 @@ def slow_reader():
             break
         parts.append(piece)
     run.wait(timeout=60)
+    sending.join(timeout=60)
     peer.close()
     os.close(reader)
     return b"".join(parts) == body * 40 and run.returncode == 0, f"status {run.returncode}"
@@ -1435,7 +1438,8 @@ def main():
     if THEIRS:
         each += [theirs_to_ours, theirs_pulls_from_ours, ours_to_theirs, four_of_theirs, theirs_is_dialed,
                  replies_to_theirs, answers_theirs, pairs_with_theirs, pair_takes_the_next, requests, surveys,
-                 bus_of_four, publishes, formats_of_theirs, many_with_theirs, whole_table]
+                 bus_of_four, publishes, many_with_theirs, whole_table]
+        once += [formats_of_theirs]
         ipc += [theirs_takes_a_path_over, a_path_where_nobody_listens, ours_is_killed_and_comes_back, long_paths]
     else:
         print("skipped: no nngcat of nng is installed")
