@@ -173,10 +173,14 @@ def long_messages_leave_no_memory():
     for peer in peers:
         peer.sendall(body)
     time.sleep(1)
-    for peer in peers:
-        peer.sendall(ws.frame(b"a"))
-    time.sleep(1.5)
-    grown = memory(run) - before
+    # A buffer goes at a message after the long one is taken, which a busy machine may do late.
+    for _ in range(10):
+        for peer in peers:
+            peer.sendall(ws.frame(b"a"))
+        time.sleep(1.5)
+        grown = memory(run) - before
+        if grown < 4096:
+            break
     for peer in peers:
         peer.close()
     stop(run)
