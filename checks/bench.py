@@ -15,8 +15,8 @@ import sys
 import threading
 import time
 
-from outside import (OURS, OVER, PULL, PUSH, REQ, THEIRS, Transport, address, closed, connect, frame, free_port, greeting, head, is_ipc,
-                     listener_at, read_all, wait_for)
+from outside import (OURS, OVER, PAIR_VERSIONS, PULL, PUSH, REQ, THEIRS, Transport, address, closed, connect, frame,
+                     free_port, greeting, head, is_ipc, listener_at, read_all, wait_for)
 
 SIZES = [(16, 2_000_000), (1024, 1_000_000), (65536, 100_000)]
 DRILLS = [100_000]
@@ -36,25 +36,26 @@ def at_once(s):
         s.setsockopt(socket.IPPROTO_TCP, socket.TCP_NODELAY, 1)
 
 
-def frames(size, count):
-    return frame(b"x" * size) * count
+def frames(size, count, lead=b""):
+    return frame(lead + b"x" * size) * count
 
 
-def pull_rate(program, size, count):
-    """Messages a second that a pull prints into a file of nothing."""
+def pull_rate(program, size, count, option="--pull", peer_role=PUSH, lead=b""):
+    """Messages a second that a pull, or a run of another role, prints into a file of nothing. Before each body comes
+    `lead`."""
     port = free_port()
-    run = subprocess.Popen([program, "--pull", "--listen", address(port), "--raw", "--count", str(count)],
+    run = subprocess.Popen([program, option, "--listen", address(port), "--raw", "--count", str(count)],
                            stdout=subprocess.DEVNULL)
     peer = connect(port)
-    greet(peer, PUSH)
-    per = max(1, (1 << 20) // len(frames(size, 1)))
-    chunk = frames(size, per)
+    greet(peer, peer_role)
+    per = max(1, (1 << 20) // len(frames(size, 1, lead)))
+    chunk = frames(size, per, lead)
     begun = time.time()
     left = count
     while left > 0:
         n = min(left, per)
         try:
-            peer.sendall(chunk if n == per else frames(size, n))
+            peer.sendall(chunk if n == per else frames(size, n, lead))
         except OSError:
             break
         left -= n
@@ -65,14 +66,14 @@ def pull_rate(program, size, count):
     return count / took
 
 
-def push_rate(program, size, count):
-    """Messages a second that a push sends."""
+def push_rate(program, size, count, option="--push", peer_role=PULL, lead=b""):
+    """Messages a second that a push, or a run of another role, sends."""
     port = free_port()
     with listener_at(port) as listener:
-        run = subprocess.Popen([program, "--push", "--dial", address(port), "--data", "x" * size, "--count", str(count)])
+        run = subprocess.Popen([program, option, "--dial", address(port), "--data", "x" * size, "--count", str(count)])
         peer, _ = listener.accept()
-        greet(peer, PULL)
-        wanted, came = count * len(frames(size, 1)), 0
+        greet(peer, peer_role)
+        wanted, came = count * len(frames(size, 1, lead)), 0
         begun = time.time()
         buffer = bytearray(1 << 20)
         while came < wanted:
@@ -83,7 +84,7 @@ def push_rate(program, size, count):
         took = time.time() - begun
         peer.close()
         run.wait(timeout=60)
-    return came / len(frames(size, 1)) / took
+    return came / len(frames(size, 1, lead)) / took
 
 
 def latency(program, count=200):
@@ -243,6 +244,17 @@ def both_ends(programs):
           + ", ".join(f"{name} {trip_rate(p, 20_000):,.0f} a second" for name, p in programs), flush=True)
 
 
+def show_pairs(_):
+    """Pairs of ours of both versions: messages of 16 bytes a second, the median of five runs in turn."""
+    for name, rate in (("prints", pull_rate), ("sends", push_rate)):
+        found = {option: [] for option, _, _ in PAIR_VERSIONS}
+        for option, role, lead in PAIR_VERSIONS * 5:
+            found[option].append(rate(OURS, 16, 1_000_000, option, role, lead))
+        old, new = (statistics.median(found[option]) for option, _, _ in PAIR_VERSIONS)
+        print(f"a pair {name} 16 over {Transport.now}: version 0 {old:,.0f}, version 1 {new:,.0f} messages/s, "
+              f"{new / old:.2f} of it", flush=True)
+
+
 def show_latency(programs):
     print(f"latency over {Transport.now}: " + ", ".join(f"{name} {latency(p):.3f} ms" for name, p in programs), flush=True)
 
@@ -292,7 +304,7 @@ def main():
     programs = [("ours", OURS)] + ([("nng 1.5.2", THEIRS)] if THEIRS else [])
     over_each = {"pull": lambda some: show_rates("pull", pull_rate, some),
                  "push": lambda some: show_rates("push", push_rate, some),
-                 "both_ends": both_ends, "latency": show_latency, "trip": show_trip}
+                 "both_ends": both_ends, "pairs": show_pairs, "latency": show_latency, "trip": show_trip}
     over_tcp = {"drill": show_drill, "idle": show_idle, "large": show_large}
     parts = [(name, part, over) for over in OVER for name, part in over_each.items()]
     parts += [(name, part, "tcp") for name, part in over_tcp.items()]

@@ -49,6 +49,7 @@ BOTH = (
     (("--pub", "--data", "hello", "--interval", "1"), ("--sub", "--ascii", "--count", "1")),
     (("--bus", "--data", "hello", "--interval", "1"), ("--bus", "--ascii", "--count", "1")),
     (("--pair0", "--data", "hello", "--interval", "1"), ("--pair0", "--ascii", "--count", "1")),
+    (("--pair1", "--data", "hello", "--interval", "1"), ("--pair1", "--ascii", "--count", "1")),
 )
 
 
@@ -153,6 +154,7 @@ ON_AND_ON = (
     (("--pub", "--interval", "1"), ("--sub", "--raw")),
     (("--bus", "--interval", "1"), ("--bus", "--raw")),
     (("--pair0", "--interval", "1"), ("--pair0", "--raw")),
+    (("--pair1", "--interval", "1"), ("--pair1", "--raw")),
 )
 
 

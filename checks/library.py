@@ -12,10 +12,11 @@ import sys
 import threading
 import time
 
-from outside import (OURS, OVER, PUSHED, THEIRS, Transport, address, begin, connect, free_port, listening, run_checks,
-                     said, start, stop)
+from outside import (OURS, OVER, PUSHED, THEIRS, Transport, address, begin, connect, free_port, is_ipc, listening, path,
+                     reads, run_checks, said, start, stop)
 
 WAIT = 20_000  # milliseconds that a call of the library may take
+NNG_EPROTO = 13
 
 
 def load():
@@ -49,7 +50,8 @@ class Socket:
 
     def __init__(self, role, raw=False):
         self.socket = Id()
-        must(getattr(NNG, f"nng_{role}0_open" + ("_raw" if raw else ""))(ctypes.byref(self.socket)))
+        name = role if role == "pair1" else f"{role}0"
+        must(getattr(NNG, f"nng_{name}_open" + ("_raw" if raw else ""))(ctypes.byref(self.socket)))
         if not raw:
             self.set_ms("recv-timeout", WAIT)
             self.set_ms("send-timeout", WAIT)
@@ -83,6 +85,28 @@ class Socket:
         size = ctypes.c_size_t(len(room))
         must(NNG.nng_recv(self.socket, room, ctypes.byref(size), 0))
         return room.raw[:size.value]
+
+    def send_with(self, header, body):
+        """Sends a message with this header; returns the library's status."""
+        message = ctypes.c_void_p()
+        must(NNG.nng_msg_alloc(ctypes.byref(message), ctypes.c_size_t(0)))
+        must(NNG.nng_msg_header_append(message, header, ctypes.c_size_t(len(header))))
+        must(NNG.nng_msg_append(message, body, ctypes.c_size_t(len(body))))
+        status = NNG.nng_sendmsg(self.socket, message, 0)
+        if status != 0:
+            NNG.nng_msg_free(message)
+        return status
+
+    def receive_with(self):
+        """The header and the body of the next message."""
+        message = ctypes.c_void_p()
+        must(NNG.nng_recvmsg(self.socket, ctypes.byref(message), 0))
+        NNG.nng_msg_header.restype = NNG.nng_msg_body.restype = ctypes.c_void_p
+        NNG.nng_msg_header_len.restype = NNG.nng_msg_len.restype = ctypes.c_size_t
+        header = ctypes.string_at(NNG.nng_msg_header(message), NNG.nng_msg_header_len(message))
+        body = ctypes.string_at(NNG.nng_msg_body(message), NNG.nng_msg_len(message))
+        NNG.nng_msg_free(message)
+        return header, body
 
     def close(self):
         NNG.nng_close(self.socket)
@@ -390,6 +414,122 @@ def pair_and_bus_of_the_library():
     return told == [b"to", b"fro"] * 2, f"{told}"
 
 
+def meets(theirs, port, listens):
+    """The library's socket listens there or dials."""
+    return theirs.listen(port) if listens else theirs.dial(port)
+
+
+def cleared(port):
+    """The port, without the file that a run which listened left there."""
+    if is_ipc() and os.path.exists(path(port)):
+        os.unlink(path(port))
+    return port
+
+
+def comes_and_goes(listens):
+    """Three sockets of the library, one after the other, get what a pair of ours sends, and three others send to one of
+    ours that prints; then three of ours that are killed send to one socket of the library."""
+    port, told, end = free_port(), [], "--dial" if listens else "--listen"
+    run = start("--pair1", end, address(port), "--data", "mine", "--interval", "1")
+    for _ in range(3):
+        with Socket("pair1") as theirs:
+            told.append(meets(theirs, port, listens).receive() == b"mine")
+    told.append(run.poll() is None)
+    stop(run)
+    port = free_port()
+    run = start("--pair1", end, address(port), "--raw")
+    for body in (b"first", b"second", b"third"):
+        with Socket("pair1") as theirs:
+            meets(theirs, port, listens).send(body)
+            told.append(reads(run, body))
+    stop(run)
+    port = free_port()
+    with Socket("pair1") as theirs:
+        meets(theirs, port, listens)
+        for text in ("first", "second", "third"):
+            run = start("--pair1", end, address(port), "--data", text, "--interval", "60")
+            told.append(theirs.receive() == text.encode())
+            stop(run)
+            if not listens:
+                cleared(port)
+    return told
+
+
+def pairs_of_version_1():
+    """A pair of version 1 of the library and ours, both ways, each listening in turn, killed and started again."""
+    told = [comes_and_goes(listens) for listens in (True, False)]
+    return all(all(each) for each in told), f"{told}"
+
+
+def hop(count):
+    return count.to_bytes(4, "big")
+
+
+# What a raw pair is handed, and whether ours prints it: with one hop more, 9 are too many.
+HOPS = ((1, True), (0, True), (7, True), (8, False), (254, False), (2, True))
+NO_COUNTS = (b"", b"\0\0\1", hop(255), hop(256), hop(1) * 2)
+
+
+def hops_to_ours(theirs, run, hops):
+    """Messages with these counts go to a pair of ours, which prints those that come over at most 8 pipes."""
+    told = []
+    for count, comes in hops:
+        told.append(theirs.send_with(hop(count), b"<%d>" % count) == 0)
+        if comes:
+            told.append(reads(run, b"<%d>" % count))
+    return told
+
+
+def raw_pairs_with(listens):
+    """A raw pair of the library sees the hop count of what ours sends, and its own come to ours with one more. Headers
+    that are no counts the library refuses."""
+    port, told = free_port(), []
+    with Socket("pair1", raw=True) as theirs:
+        theirs.set_ms("recv-timeout", WAIT)
+        theirs.set_ms("send-timeout", WAIT)
+        meets(theirs, port, listens)
+        end = "--dial" if listens else "--listen"
+        run = start("--pair1", end, address(port), "--data", "mine")
+        told.append(theirs.receive_with() == (hop(1), b"mine"))
+        told.append(said([run]) == ([b""], True))
+        run = start("--pair1", end, address(port if listens else cleared(port)), "--raw")
+        told += hops_to_ours(theirs, run, HOPS)
+        told += [theirs.send_with(header, b"x") == NNG_EPROTO for header in NO_COUNTS]
+        told += hops_to_ours(theirs, run, HOPS)
+        stop(run)
+    return told
+
+
+def raw_pairs_of_the_library():
+    """A raw pair of version 1 of the library and ours, each listening in turn."""
+    told = [raw_pairs_with(listens) for listens in (True, False)]
+    return all(all(each) for each in told), f"{told}"
+
+
+def pairs_through_devices():
+    """Pairs of version 1 on both sides of one device of the library, and of two: each adds one to the hop count."""
+    told = []
+    for count in (1, 2):
+        ports = [free_port() for _ in range(count + 1)]
+        ends = [end for front, back in zip(ports, ports[1:]) for end in device("pair1", front, "pair1", back)]
+        with Socket("pair1", raw=True) as far:
+            far.set_ms("recv-timeout", WAIT)
+            far.set_ms("send-timeout", WAIT)
+            far.listen(ports[-1])
+            run = start("--pair1", "--dial", address(ports[0]), "--data", "mine")
+            told.append(far.receive_with() == (hop(1 + count), b"mine"))
+            told.append(said([run]) == ([b""], True))
+            run = start("--pair1", "--dial", address(ports[0]), "--raw")
+            told += hops_to_ours(far, run, ((1, True), (7 - count, True), (8 - count, False), (8, False), (0, True)))
+            stop(run)
+        runs = [start("--pair1", "--listen", address(cleared(ports[-1])), "--ascii", "--count", "1"),
+                start("--pair1", "--dial", address(ports[0]), "--data", "through")]
+        told.append(said(runs) == ([b"through", b""], True))
+        for end in ends:
+            end.close()
+    return all(told), f"{told}"
+
+
 def round_trips(program, trips=20_000):
     """The median of a round trip of 8 bytes in microseconds, and trips a second, with this server."""
     port = free_port()
@@ -435,9 +575,10 @@ def main():
         return 0
     if sys.argv[1:] == ["measure"]:
         return sum(measure(over) for over in OVER)
+    pairs = (pairs_of_version_1, raw_pairs_of_the_library, pairs_through_devices)
     return run_checks(each=(contexts_ask_ours, replies_to_ours, replier_dies, two_devices, surveys_of_the_library,
                             respondents_of_the_library, topics_of_the_library, pair_and_bus_of_the_library,
-                            many_of_the_library))
+                            *pairs, many_of_the_library), ws=pairs)
 
 
 if __name__ == "__main__":

@@ -15,8 +15,8 @@ import threading
 import time
 
 import websocket as ws
-from outside import (OURS, PAIR, PULL, PUSH, REP, REQ, BUS, address, begin, connect, frame, free_port, greeting, memory,
-                     read_all, start, stop, stop_all)
+from outside import (OURS, HOP, PAIR, PAIR1, PAIR_VERSIONS, PULL, PUSH, BUS, address, begin, connect, frame, free_port,
+                     greeting, memory, read_all, start, stop, stop_all)
 
 PONG = b"\x8a\x80\0\0\0\0"
 
@@ -107,8 +107,9 @@ def a_flood_does_not_hold_a_deadline():
     return 1.5 < took < 6, f"{took:.1f} s"
 
 
-def slow_reader(words, role, byte):
-    """How many of 12 messages of 200 kB arrive at a peer that reads slowly, and whether it sent a message after 0.3 s."""
+def slow_reader(words, role, lead, byte):
+    """How many of 12 messages of 200 kB arrive at a peer that reads slowly, and whether it sent a message after 0.3 s.
+    Before each body comes `lead`."""
     port = free_port()
     data = "x" * 199_990
     path = f"/tmp/slow-reader-{os.getpid()}"
@@ -125,7 +126,7 @@ def slow_reader(words, role, byte):
     try:
         while True:
             if byte and not sent and time.time() - begun > 0.3:
-                peer.sendall(frame(b"a"))
+                peer.sendall(frame(lead + b"a"))
                 sent = True
             time.sleep(0.01)
             piece = peer.recv(20_000)
@@ -137,13 +138,13 @@ def slow_reader(words, role, byte):
     peer.close()
     out, err = run.communicate(timeout=30)
     os.unlink(path)
-    return came // (8 + len(data)), run.returncode, err, sent
+    return came // (8 + len(lead) + len(data)), run.returncode, err, sent
 
 
 def all_arrives_at_the_end():
     """What a run sent before its end arrives, though the peer is slow and sends something meanwhile."""
-    rows = ((("--push",), PULL), (("--pair",), PAIR), (("--bus",), BUS))
-    tried = [(slow_reader(words, role, byte), byte) for words, role in rows for byte in (False, True)]
+    rows = (("--push", PULL, b""), ("--pair", PAIR, b""), ("--pair1", PAIR1, HOP), ("--bus", BUS, b""))
+    tried = [(slow_reader((option,), role, lead, byte), byte) for option, role, lead in rows for byte in (False, True)]
     return all(row == (12, 0, b"", byte) for row, byte in tried), f"{[row for row, _ in tried]}"
 
 
@@ -273,34 +274,42 @@ def silent_links_hold_one_port():
     return out == b"hello\n" and took < 3, f"{took:.2f} s"
 
 
-def message_of(port):
+def message_of(port, role, size):
     """The first message that a pair sends to a peer which waits for it; none where it ends the link."""
     with connect(port) as peer:
         peer.settimeout(2)
         try:
-            peer.sendall(greeting(PAIR))
-            return read_all(peer, 8 + 8 + 1)[8:]
+            peer.sendall(greeting(role))
+            return read_all(peer, 8 + size)[8:]
         except OSError:
             return b""
 
 
-def a_pair_takes_its_next_peer():
-    """A pair that only sends keeps a message of its peer, and takes another peer once it has sent to one that is gone."""
+def takes_its_next_peer(option, role, lead):
+    """How long it takes until a pair has another peer; or what came, where that was wrong."""
     port = free_port()
-    run = start("--pair", "--listen", address(port), "--data", "x", "--interval", "1", "--count", "9")
+    run = start(option, "--listen", address(port), "--data", "x", "--interval", "1", "--count", "9")
+    wanted = frame(lead + b"x")
     first = connect(port)
-    first.sendall(greeting(PAIR) + frame(b"a"))
-    began = read_all(first, 8 + 8 + 1)[8:]
+    first.sendall(greeting(role) + frame(lead + b"a"))
+    began = read_all(first, 8 + len(wanted))[8:]
     first.close()
     closed = time.time()
-    refused = message_of(port)
+    refused = message_of(port, role, len(wanted))
     came = b""
     while not came and time.time() - closed < 8:
-        came = message_of(port)
+        came = message_of(port, role, len(wanted))
     took = time.time() - closed
     stop(run)
-    well = (began, refused, came) == (frame(b"x"), b"", frame(b"x"))
-    return well, f"refused at once, taken {took:.1f} s after the first had closed" if well else f"{began} {refused} {came}"
+    well = (began, refused, came) == (wanted, b"", wanted)
+    return well, f"{option} {took:.1f} s" if well else f"{option} {began} {refused} {came}"
+
+
+def a_pair_takes_its_next_peer():
+    """A pair that only sends keeps a message of its peer, and takes another once it has sent to one that is gone."""
+    tried = [takes_its_next_peer(*version) for version in PAIR_VERSIONS]
+    return all(well for well, _ in tried), "refused at once, taken after the first had closed: " + ", ".join(
+        told for _, told in tried)
 
 
 def input_that_does_not_wait():

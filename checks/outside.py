@@ -26,15 +26,18 @@ MESSAGES = int(os.environ.get("MESSAGES", "1000000"))
 PUSHED = int(os.environ.get("PUSHED", "100000"))
 OVER = os.environ.get("OVER", "tcp ipc").split()
 
-PAIR = 0x10
+PAIR, PAIR1 = 0x10, 0x11
 PUSH, PULL = 0x50, 0x51
 REQ, REP = 0x30, 0x31
 SURVEYOR, RESPONDENT = 0x62, 0x63
 PUB, SUB, BUS = 0x20, 0x21, 0x70
+# What comes before each body that a pair of version 1 sends: a hop count of 1.
+HOP = b"\0\0\0\1"
 
 
 class Transport:
-    """Over what the checks go now. Over IPC a port is the number of a file, which stands in `folder`."""
+    """Over what the checks go now: tcp, ipc or ws. Over IPC a port is the number of a file, which stands in `folder`.
+    Over WebSocket both sides are programs or the library: the peers that are written here don't speak it."""
     now = "tcp"
     folder = None
     numbers = itertools.count(1)
@@ -52,7 +55,9 @@ def path(port):
 
 
 def address(port):
-    return f"ipc://{path(port)}" if is_ipc() else f"tcp://127.0.0.1:{port}"
+    if is_ipc():
+        return f"ipc://{path(port)}"
+    return f"ws://127.0.0.1:{port}/x" if Transport.now == "ws" else f"tcp://127.0.0.1:{port}"
 
 
 def unconnected():
@@ -620,10 +625,14 @@ def answers_theirs():
     return right and run.returncode == 0, f"{out!r}, {asked.stdout!r}, status {run.returncode}"
 
 
-def brings_a_pair(server, dialer, server_sends):
+# The versions of pair: the option, the number, and what comes before each body.
+PAIR_VERSIONS = (("--pair0", PAIR, b""), ("--pair1", PAIR1, HOP))
+
+
+def brings_a_pair(option, server, dialer, server_sends):
     """Returns whether one message of a pair comes from the side that sends, and what the other one prints."""
     port = free_port()
-    sends, takes = ("--pair0", "--data", "hello"), ("--pair0", "--ascii", "--count", "1")
+    sends, takes = (option, "--data", "hello"), (option, "--ascii", "--count", "1")
     run = listening(server, port, *(sends if server_sends else takes))
     other = begin(dialer, *(takes if server_sends else sends), "--dial", address(port))
     taker, sender = (other, run) if server_sends else (run, other)
@@ -637,9 +646,27 @@ def brings_a_pair(server, dialer, server_sends):
 
 
 def pairs_with_theirs():
-    """A pair of ours and one of Debian's: each listens in turn, and each of the two sends."""
-    tried = [brings_a_pair(*pair, sends) for pair in ((OURS, THEIRS), (THEIRS, OURS)) for sends in (False, True)]
+    """A pair of ours and one of Debian's, of each version: each listens in turn, and each of the two sends."""
+    tried = [brings_a_pair(option, *pair, sends) for option, _, _ in PAIR_VERSIONS
+             for pair in ((OURS, THEIRS), (THEIRS, OURS)) for sends in (False, True)]
     return all(well for well, _ in tried), f"{[outs for _, outs in tried]}"
+
+
+def versions_do_not_meet():
+    """A pair of ours of one version and one of Debian's of the other take nothing of each other, each listening in
+    turn; --pair is version 0 here, and no protocol there."""
+    told = []
+    for mine, yours in (("--pair", "--pair1"), ("--pair1", "--pair0")):
+        for server, dialer in (((OURS, mine), (THEIRS, yours)), ((THEIRS, yours), (OURS, mine))):
+            port = free_port()
+            run = listening(server[0], port, server[1], "--ascii", "--recv-timeout", "2")
+            other = begin(*dialer, "--dial", address(port), "--data", "hello", "--interval", "1")
+            told.append(said([run]) == ([b""], True))
+            stop(other)
+    run = subprocess.run([THEIRS, "--pair", "--listen", address(free_port())], stdout=subprocess.PIPE,
+                         stderr=subprocess.PIPE, timeout=60)
+    told.append((run.returncode, run.stderr) == (1, b"No protocol specified.\n"))
+    return all(told), f"{told}, {run.stderr}"
 
 
 # Without an interval Debian's requester gives up where it had to wait for its first peer.
@@ -781,16 +808,16 @@ def words_of_devices():
     return came == want, f"{came!r}"
 
 
-def takes_the_next(server, dialer):
+def takes_the_next(option, number, lead, server, dialer):
     """A pair that has a peer refuses another one, which dials on and is taken when the first has gone."""
     port = free_port()
-    run = listening(server, port, "--pair0", "--ascii", "--count", "2")
+    run = listening(server, port, option, "--ascii", "--count", "2")
     with connect(port) as first:
         first.settimeout(20)
-        first.sendall(greeting(PAIR) + frame(b"one"))
-        greeted = read_all(first, 8) == greeting(PAIR)
+        first.sendall(greeting(number) + frame(lead + b"one"))
+        greeted = read_all(first, 8) == greeting(number)
         time.sleep(0.5)
-        other = begin(dialer, "--pair0", "--dial", address(port), "--data", "two", "--interval", "1")
+        other = begin(dialer, option, "--dial", address(port), "--data", "two", "--interval", "1")
         time.sleep(2.5)
         waits = run.poll() is None
     outs, well = said([run])
@@ -799,9 +826,88 @@ def takes_the_next(server, dialer):
 
 
 def pair_takes_the_next():
-    """Ours with Debian's as the second peer, and the other way round."""
-    tried = [takes_the_next(OURS, THEIRS), takes_the_next(THEIRS, OURS)]
+    """Ours with Debian's as the second peer, and the other way round, in each version."""
+    tried = [takes_the_next(*version, *pair) for version in PAIR_VERSIONS for pair in ((OURS, THEIRS), (THEIRS, OURS))]
     return all(well for well, _ in tried), f"{[outs for _, outs in tried]}"
+
+
+# Frames of which each ends the pipe of a pair of version 1: they have no word, or one that is no hop count.
+NO_HOP_COUNTS = (b"", b"\0\0\0", b"\0\1\0\1a", b"\1\0\0\1a", b"\0\0\1\1a")
+# Frames with a hop count above 8, its usual bound, and good ones with what is printed of them.
+TOO_FAR = (b"\0\0\0\x09far", b"\0\0\0\xfffar")
+COUNTED = ((b"\0\0\0\1one", b"one"), (b"\0\0\0\x08eight", b"eight"), (b"\0\0\0\0zero", b"zero"))
+
+
+def met(peer):
+    """The peer, greeted by a pair of version 1."""
+    peer.settimeout(20)
+    peer.sendall(greeting(PAIR1))
+    if read_all(peer, 8) != greeting(PAIR1):
+        raise OSError("no greeting")
+    return peer
+
+
+def hops_come_to(run, peers):
+    """Frames with and without hop counts come to a pair that prints: one without ends its own pipe, and the next peer
+    is served; one with too many is dropped, and its pipe stays."""
+    told = []
+    for bad in NO_HOP_COUNTS:
+        with next(peers) as peer:
+            peer.sendall(frame(HOP + b"before"))
+            told.append(reads(run, b"before"))
+            peer.sendall(frame(bad))
+            told.append(is_over(peer))
+        # Debian's refuses a peer for a moment after it has closed the pipe of the one before.
+        time.sleep(0.2)
+    with next(peers) as peer:
+        for far in TOO_FAR:
+            for body, text in COUNTED:
+                peer.sendall(frame(far) + frame(body))
+                told.append(reads(run, text))
+    return told
+
+
+def peers_that_dial(port):
+    while True:
+        yield met(connect(port))
+
+
+def peers_that_listen(listener):
+    while True:
+        yield met(listener.accept()[0])
+
+
+def hop_counts():
+    """Ours and Debian's print the same of a plain peer's frames with and without hop counts, listening and dialing."""
+    told = {}
+    for name, program in (("ours", OURS), ("Debian's", THEIRS)):
+        if program is None:
+            continue
+        port = free_port()
+        run = listening(program, port, "--pair1", "--raw")
+        told[name] = hops_come_to(run, peers_that_dial(port))
+        stop(run)
+        port = free_port()
+        with listener_at(port) as listener:
+            listener.settimeout(20)
+            run = begin(program, "--pair1", "--raw", "--dial", address(port))
+            told[name] += hops_come_to(run, peers_that_listen(listener))
+        stop(run)
+    wrong = {name: [n for n, well in enumerate(each) if not well] for name, each in told.items()}
+    return not any(wrong.values()), f"{[len(each) for each in told.values()]} steps, wrong: {wrong}"
+
+
+def sends_a_hop_count():
+    """Each message of ours begins with 00 00 00 01, an empty one too."""
+    told = []
+    for data in ("x", "", "0" * 300):
+        port = free_port()
+        run = start("--pair1", "--listen", address(port), "--data", data, "--count", "2", "--interval", "0")
+        with met(connect(port)) as peer:
+            wanted = frame(HOP + data.encode()) * 2
+            told.append(read_all(peer, len(wanted)) == wanted)
+        told.append(said([run]) == ([b""], True))
+    return all(told), f"{told}"
 
 
 def bus_of_four():
@@ -882,7 +988,8 @@ OPTIONS = [
     ("--dial ADDRESS", "--dial takes neither * nor port 0", None),
     ("--data TEXT", "send TEXT", None),
     ("--file NAME", "standard input", None),
-    ("--subscribe TEXT", "1,024 bytes", "Without it a sub takes all"),
+    ("--subscribe TEXT", "1,024 bytes", "Without it all"),
+    ("--recv-max BYTES", "0 to 2,147,483,647", "Default: 1,048,576"),
     ("--raw", "bytes", "without one nothing is printed"),
     ("--ascii", "a line each", "without one nothing is printed"),
     ("--quoted", "a line each", "without one nothing is printed"),
@@ -895,7 +1002,7 @@ OPTIONS = [
     ("--drill N", "1 to 1,000,000", None),
     ("--help, --version", "print this text", None),
 ]
-ROLES = ("push", "pull", "pub", "sub", "req", "rep", "pair", "bus", "surveyor", "respondent")
+ROLES = ("push", "pull", "pub", "sub", "req", "rep", "pair", "pair1", "bus", "surveyor", "respondent")
 
 
 def told_of(lines, option):
@@ -924,11 +1031,11 @@ def lacks(text, lines):
 
 
 def help_and_version():
-    """--help and --version as the only word: status 0, on standard output, at most 64 lines of 80 columns, four examples, each option
+    """--help and --version as the only word: status 0, on standard output, at most 68 lines of 80 columns, four examples, each option
     with its unit and default. Both complain where standard output takes nothing."""
     status, text, err = answered("--help")
     lines = text.decode().split("\n")
-    right = status == 0 and err == b"" and len(lines) <= 65 and lines[-1] == ""
+    right = status == 0 and err == b"" and len(lines) <= 69 and lines[-1] == ""
     right = right and all(len(line) <= 80 for line in lines)
     right = right and sum(line.startswith("  nngcat --") for line in lines) >= 4
     lacking = lacks(text.decode(), lines)
@@ -1100,6 +1207,7 @@ def rows_of_formats():
         ("--pull", (), (PUSH, [ANY], None)),
         ("--sub", (), (PUB, [ANY], None)),
         ("--pair0", (), (PAIR, [ANY], None)),
+        ("--pair1", (), (PAIR1, [HOP + ANY], None)),
         ("--bus", (), (BUS, [ANY], None)),
         ("--rep", ("--data", "ok"), (REQ, [ID + ANY], None)),
         ("--respondent", ("--data", "ok"), (SURVEYOR, [ID + ANY], None)),
@@ -1117,8 +1225,9 @@ def rows_of_counts():
     yield ("--pull", "--raw", "--count", "2"), (PUSH, [b"a", b"b", b"c"], None)
     yield ("--sub", "--subscribe", "b", "--raw", "--count", "2"), (PUB, [b"a", b"b1", b"b2", b"b3"], None)
     yield ("--pair0", "--raw", "--count", "2"), (PAIR, [b"a", b"b", b"c"], None)
+    yield ("--pair1", "--raw", "--count", "2"), (PAIR1, [HOP + b"a", HOP + b"b", HOP + b"c"], None)
     yield ("--bus", "--raw", "--count", "2"), (BUS, [b"a", b"b", b"c"], None)
-    for role, other in (("--push", PULL), ("--pub", SUB), ("--pair0", PAIR), ("--bus", BUS)):
+    for role, other in (("--push", PULL), ("--pub", SUB), ("--pair0", PAIR), ("--pair1", PAIR1), ("--bus", BUS)):
         yield (role, "--data", "d", "--interval", "1", "--count", "2"), (other, [], None)
     for role, other in (("--req", REP), ("--surveyor", RESPONDENT)):
         yield (role, "--data", "d", "--raw", "--interval", "2", "--count", "2"), (other, [], echo)
@@ -1128,15 +1237,15 @@ def rows_of_counts():
 
 def rows_of_times():
     """Each role whose time runs out, and each that ends after one message."""
-    for role in ("--pull", "--sub", "--pair0", "--bus"):
+    for role in ("--pull", "--sub", "--pair0", "--pair1", "--bus"):
         yield (role, "--raw", "--recv-timeout", "1"), None
     for role in ("--rep", "--respondent"):
         yield (role, "--data", "d", "--raw", "--recv-timeout", "1"), None
-    for role, other in (("--push", PULL), ("--pub", SUB), ("--pair0", PAIR), ("--bus", BUS)):
+    for role, other in (("--push", PULL), ("--pub", SUB), ("--pair0", PAIR), ("--pair1", PAIR1), ("--bus", BUS)):
         yield (role, "--data", "d"), (other, [], None)
     yield ("--req", "--data", "d", "--raw", "--recv-timeout", "1"), (REP, [], None)
     yield ("--surveyor", "--data", "d", "--raw", "--recv-timeout", "1"), (RESPONDENT, [], None)
-    for role in ("--push", "--pair0", "--req"):
+    for role in ("--push", "--pair0", "--pair1", "--req"):
         yield (role, "--data", "d", "--send-timeout", "1"), None
     for role, other in (("--pub", SUB), ("--bus", BUS), ("--surveyor", RESPONDENT)):
         yield (role, "--data", "d", "--interval", "1", "--count", "1", "--send-timeout", "1"), (other, [], None)
@@ -1162,13 +1271,14 @@ def for_theirs(words):
 
 
 # How many rows of the whole table end otherwise; docs/DECISIONS.md gives the reasons.
-END_OTHERWISE = 7
+END_OTHERWISE = 9
 
 
 def ends_otherwise(words, peer):
     """The two statuses of a row that docs/DECISIONS.md lets differ, ours first (None: it doesn't end); None for all
     other rows."""
-    if words[0] in ("--pair0", "--bus") and "--data" in words and not {"--interval", "--send-timeout"} & set(words):
+    sends_once = "--data" in words and not {"--interval", "--send-timeout"} & set(words)
+    if words[0] in ("--pair0", "--pair1", "--bus") and sends_once:
         return 0, None
     if words[0] in ("--rep", "--respondent") and "--recv-timeout" in words:
         return 0, 1
@@ -1405,11 +1515,11 @@ def no_permission():
     return all(told), f"{told}"
 
 
-def run_checks(once=(), each=(), ipc=()):
-    """Runs the checks that the words name, or all: those that no transport is for, those for each transport, and those
-    for IPC. Prints a line for each, and returns how many failed."""
+def run_checks(once=(), each=(), ipc=(), ws=()):
+    """Runs the checks that the words name, or all: those that no transport is for, those for each transport, those for
+    IPC, and beside TCP those that go over WebSocket too. Prints a line for each, and returns how many failed."""
     rows = [(check, None) for check in once] + [(check, over) for over in OVER for check in each]
-    rows += [(check, "ipc") for check in ipc if "ipc" in OVER]
+    rows += [(check, "ipc") for check in ipc if "ipc" in OVER] + [(check, "ws") for check in ws if "tcp" in OVER]
     failed = 0
     for check, over in rows:
         if sys.argv[1:] and check.__name__ not in sys.argv[1:]:
@@ -1432,13 +1542,13 @@ def main():
         return 0
     once = [help_and_version, wrong_words, completion, manual_page]
     each = [faults_name_their_words, standard_input, empty_input, broken_peers, slow_reader, slow_peer, longest_message,
-            full_output, send_times_out, numbers_differ, peer_that_comes_back, words_of_devices,
-            idle_rounds_allocate_nothing, many_links, many_messages, many_pushed]
+            full_output, send_times_out, numbers_differ, peer_that_comes_back, words_of_devices, hop_counts,
+            sends_a_hop_count, idle_rounds_allocate_nothing, many_links, many_messages, many_pushed]
     ipc = [a_path_that_is_there, a_full_path_holds_nobody_up, another_byte_ends_its_link, no_permission]
     if THEIRS:
         each += [theirs_to_ours, theirs_pulls_from_ours, ours_to_theirs, four_of_theirs, theirs_is_dialed,
-                 replies_to_theirs, answers_theirs, pairs_with_theirs, pair_takes_the_next, requests, surveys,
-                 bus_of_four, publishes, many_with_theirs, whole_table]
+                 replies_to_theirs, answers_theirs, pairs_with_theirs, versions_do_not_meet, pair_takes_the_next,
+                 requests, surveys, bus_of_four, publishes, many_with_theirs, whole_table]
         once += [formats_of_theirs]
         ipc += [theirs_takes_a_path_over, a_path_where_nobody_listens, ours_is_killed_and_comes_back, long_paths]
     else:

@@ -29,8 +29,9 @@ is '--surveyor --listen tcp://127.0.0.1:1 --data who --quoted' --surveyor --list
 is '--bus --listen tcp://127.0.0.1:1 --data a=b' --bus --listen tcp://127.0.0.1:1 --data=a=b
 is refused --pull --delay 1 --dial tcp://127.0.0.1:1
 is refused --pull --compat --dial tcp://127.0.0.1:1
-is refused --pull -Z 100 --dial tcp://127.0.0.1:1
-is refused --pair1 --dial tcp://127.0.0.1:1
+is '--pull --recv-max 100 --dial tcp://127.0.0.1:1' --pull -Z 100 --dial tcp://127.0.0.1:1
+is '--pair1 --dial tcp://127.0.0.1:1' --pair1 --dial tcp://127.0.0.1:1
+is '--pair1 --dial tcp://127.0.0.1:1' --pair --dial tcp://127.0.0.1:1
 is refused --p --dial tcp://127.0.0.1:1
 is refused --pull --nothing
 is refused --pull --format none --dial tcp://127.0.0.1:1

@@ -355,6 +355,7 @@ PAIRS = [
     ("push", "pull", ("--data", "m", "--interval", "1"), ("--ascii", "--count", "1")),
     ("pub", "sub", ("--data", "m", "--interval", "1"), ("--ascii", "--count", "1", "--subscribe", "")),
     ("pair", "pair", ("--data", "m", "--interval", "1"), ("--ascii", "--count", "1")),
+    ("pair1", "pair1", ("--data", "m", "--interval", "1"), ("--ascii", "--count", "1")),
     ("bus", "bus", ("--data", "m", "--interval", "1"), ("--ascii", "--count", "1")),
     ("rep", "req", ("--data", "m", "--ascii"), ("--data", "q", "--interval", "1", "--ascii", "--count", "1")),
     ("respondent", "surveyor", ("--data", "m", "--ascii"), ("--data", "q", "--interval", "1", "--ascii", "--count", "1", "--recv-timeout", "1")),

@@ -57,15 +57,15 @@ _nngcat_value() {
 
 _nngcat() {
     local before word value lead=
-    local roles='--pair --bus --pub --sub --push --pull --req --rep --surveyor --respondent
+    local roles='--pair --pair1 --bus --pub --sub --push --pull --req --rep --surveyor --respondent
         --pair0 --bus0 --pub0 --sub0 --push0 --pull0 --req0 --rep0 --surveyor0 --respondent0'
-    local others='--dial --listen --data --file --subscribe --count --interval --recv-timeout --send-timeout
+    local others='--dial --listen --data --file --subscribe --count --interval --recv-timeout --send-timeout --recv-max
         --ascii --raw --quoted --hex --msgpack --drill --help --version'
     COMPREPLY=()
     _nngcat_words
     value=$word
     case $before in
-        --file | --dial | --listen | --data | --subscribe | --count | --interval | --recv-timeout | --send-timeout | --drill)
+        --file | --dial | --listen | --data | --subscribe | --count | --interval | --recv-timeout | --send-timeout | --recv-max | --drill)
             _nngcat_value "$before" ;;
         *)
             if [[ $word == --*=* ]]; then

@@ -114,6 +114,9 @@ impl<P: Proto, W: Scripted> CoreBench<P, W> {
             Call::PassOn(c) => self.pass_on(rt, c.after(times)),
             Call::Cancel(op) => self.cancel(op.after(times)),
             Call::Expire(op) => self.expire(op.after(times)),
+            Call::ServeBusy(most) => {
+                let _ = self.driver.serve_busy(rt, most.after(times));
+            }
             Call::Tick(now) => self.tick(rt, now.after(times)),
             _ => self.make_alone(rt, call),
         }
@@ -170,7 +173,7 @@ impl<P: Proto, W: Scripted> CoreBench<P, W> {
     fn attach<R: AllocGlobal + Wait>(&mut self, rt: &R, room: u32, gives: Gives, before: u32) {
         if let Ok(script) = script(rt.alloc(), gives, before) {
             let wire = W::scripted(rt.alloc(), script, u64::from(room));
-            let _ = self.driver.attach(rt, wire, 0);
+            let _ = self.driver.attach(rt, wire, 0, u32::MAX);
         }
     }
 

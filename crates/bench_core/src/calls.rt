@@ -23,6 +23,8 @@ pub enum Call {
     /// The names of the receives that began.
     Forget,
     Serve,
+    /// With at most this many frames of each pipe.
+    ServeBusy(Number),
     Tick(Number),
     TakeEnded,
     Close,
@@ -56,6 +58,7 @@ fn with_number(name: &str, number: Number) -> Option<Call> {
         "pass_on" => Some(Call::PassOn(number)),
         "cancel" => Some(Call::Cancel(number)),
         "expire" => Some(Call::Expire(number)),
+        "serve_busy" => Some(Call::ServeBusy(number)),
         "tick" => Some(Call::Tick(number)),
         _ => None,
     }

@@ -29,6 +29,7 @@
 //! | `cancel RECEIVE`, `expire RECEIVE` | the receive is cancelled, and times out if it was due |
 //! | `forget` | receives are counted from 0 again |
 //! | `serve`, `tick TICK` | the pipes are served, and the clock goes on |
+//! | `serve_busy MOST` | the pipes that are busy are served, with at most MOST frames of each |
 //! | `take_ended`, `close` | a pipe that is down is taken, and the core is closed |
 //! | `switch` | what follows is timed apart from what came before |
 //!

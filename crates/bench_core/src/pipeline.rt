@@ -59,6 +59,16 @@ pub const PULL: &str = "# 64 256 1024 3000 4096
     row n take_ended, a pipe
 
     # 64 256 1024 3000 4096
+    cooked 16 a pull with one busy pipe beside idle ones
+    pipes 1 0 plain 2000
+    pipes n 0 plain 0
+    once serve
+    repeat 1000 receive_now 0, serve_busy 1
+    row 1000 serve_busy with one busy pipe and a receive at once, a call
+    repeat 16 receive_now 0, serve
+    row 16 serve with one busy pipe and a receive at once, a call
+
+    # 64 256 1024 3000 4096
     cooked n receives that are cancelled or expire
     pipes 1 0 plain 0
     repeat n receive_by 0 i

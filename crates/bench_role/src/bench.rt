@@ -86,6 +86,7 @@ impl<M: Proto> MachineBench<M> {
             MachineCall::Clock(now) => self.machine.clock(Tick(u64::from(now.after(times)))),
             MachineCall::Shut(c) => self.machine.close_ctx(Ctx(c.after(times))),
             MachineCall::Stranger => return come(&mut self.machine, self.alloc, 1, &self.stranger),
+            MachineCall::Hop => return come(&mut self.machine, self.alloc, 1, &[0, 0, 0, 1, 120]),
             MachineCall::PutLettersOn(count) => return self.put_letters_on(count.after(times)),
             MachineCall::Letters(count) => return self.use_letters(count.after(times)),
             _ => return did(&mut self.machine, self.alloc, call, times),

@@ -28,6 +28,8 @@ pub enum MachineCall {
     Answer(Number, Number),
     /// A frame that no topic matches: a text, or as many letters `t`.
     Stranger,
+    /// A frame with a hop count comes on pipe 1.
+    Hop,
     Letters(Number),
     /// Does what is offered, over as many pipes.
     Take(Number),
@@ -44,6 +46,7 @@ fn alone(name: &str) -> Option<MachineCall> {
         "find_full" => Some(MachineCall::FindFull),
         "find_down" => Some(MachineCall::FindDown),
         "stranger" => Some(MachineCall::Stranger),
+        "hop" => Some(MachineCall::Hop),
         _ => None,
     }
 }

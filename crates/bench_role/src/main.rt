@@ -1,8 +1,8 @@
-//! The cost of a call of the machines of pub, sub, surveyor, req and rep, as topics, contexts, pipes, live requests and
-//! queues grow: nanoseconds for each unit of work, on standard error. What is printed is the same at any speed.
+//! The cost of a call of the machines of pub, sub, surveyor, req, rep and pair, as topics, contexts, pipes, live requests
+//! and queues grow: nanoseconds for each unit of work, on standard error. What is printed is the same at any speed.
 //!
-//! Each machine plays a text. The room of a sub's queues, or `usual`, follows `#`, and then the sizes at which it is
-//! played. Then follow lines of these kinds:
+//! Each machine plays a text. The room of a sub's queues, the version of a pair, or `usual` follows `#`, and then the
+//! sizes at which it is played. Then follow lines of these kinds:
 //!
 //! | line | what it says |
 //! |---|---|
@@ -22,6 +22,7 @@
 //! | `send SLOT CONTEXT`, `receive SLOT CONTEXT` | a send and a receive begin |
 //! | `answer PIPE ID` | a reply or a response with this id comes, or a request |
 //! | `stranger` | a frame that no topic matches comes on pipe 1 |
+//! | `hop` | a frame with a hop count comes on pipe 1 |
 //! | `letters COUNT` | from now on that frame is COUNT letters t |
 //! | `take PIPES` | what is offered is done, over PIPES pipes |
 //! | `find_full`, `find_down` | the pipe of the offered send is full, and goes down |
@@ -37,24 +38,27 @@ mod bench;
 mod calls;
 mod makers;
 mod moves;
+mod paired;
 mod spread;
 mod surveyed;
 
 use bench::play_all;
 use makers::MadeMachine;
+use proto_pair::Pair;
 use proto_pubsub::{Publish, Subscribe};
 use proto_reqrep::{Reply, Request};
 use proto_survey::Survey;
 use std::io::{self, Eprint};
 use std::time::Clock;
 
-// Plays the texts of all five roles. Returns whether it could.
+// Plays the texts of all six roles. Returns whether it could.
 fn each_role<
     U: MadeMachine,
     B: MadeMachine,
     S: MadeMachine,
     Q: MadeMachine,
     P: MadeMachine,
+    A: MadeMachine,
     R: AllocGlobal + Clock + Eprint,
 >(rt: &R) -> bool {
     play_all::<U, R>(rt, spread::SUB)
@@ -62,10 +66,11 @@ fn each_role<
         && play_all::<S, R>(rt, surveyed::SURVEYOR)
         && play_all::<Q, R>(rt, asked::REQ)
         && play_all::<P, R>(rt, answered::REP)
+        && play_all::<A, R>(rt, paired::PAIR)
 }
 
 fn all<R: AllocGlobal + Clock + Eprint>(rt: &R) -> bool {
-    each_role::<Subscribe, Publish, Survey, Request, Reply, R>(rt)
+    each_role::<Subscribe, Publish, Survey, Request, Reply, Pair, R>(rt)
 }
 
 fn main(rt: HostRuntime) -> io::Result<()> {

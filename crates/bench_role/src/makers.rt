@@ -1,4 +1,5 @@
 //! Machines that can be made. Plays are generic over them, since proofs about written-out types are costly.
+use proto_pair::{Pair, Pair1};
 use proto_pubsub::{Publish, Subscribe};
 use proto_reqrep::{Reply, Request};
 use proto_survey::Survey;
@@ -9,7 +10,8 @@ use std::alloc::Global;
 
 /// A machine that can be made.
 pub trait MadeMachine: Proto {
-    /// A machine with the usual options of its role. A sub may have queues of room `queue`.
+    /// A machine with the usual options of its role. A sub may have queues of room `queue`; for a pair it is the version
+    /// of its protocol, which is 0 without it.
     fn made(alloc: Global, queue: Option<u32>) -> Result<Self, NoMemory>;
 }
 
@@ -26,6 +28,15 @@ impl MadeMachine for Subscribe {
             options.queue = queue;
         }
         Subscribe::new(alloc, options, false)
+    }
+}
+
+impl MadeMachine for Pair {
+    fn made(alloc: Global, queue: Option<u32>) -> Result<Pair, NoMemory> {
+        match queue {
+            None => Pair::new(alloc, Options::usual(Role::Pair0, 0), false),
+            Some(_) => Pair1::new(alloc, Options::usual(Role::Pair1, 0), false),
+        }
     }
 }
 

@@ -33,7 +33,7 @@ pub fn attach_alone<P: Proto, W: Wire + Drop, R: Wait>(
     requires unused { IsUnused (W.shown wire) }
     ensures { IsAlone P.ties P.room W.shown core.new }
 {
-    core.attach(rt, 1, wire, 0).is_ok()
+    core.attach(rt, 1, wire, 0, u32::MAX).is_ok()
 }
 
 // Takes a turn that notes a link.

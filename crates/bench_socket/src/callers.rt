@@ -47,7 +47,7 @@ pub fn attach<P: Proto, W: Wire + Drop, R: Wait>(
     let Some(mut pass) = list.pop() else {
         return false;
     };
-    let attached = socket.attach(rt, &mut pass, wire, 0).is_ok();
+    let attached = socket.attach(rt, &mut pass, wire, 0, u32::MAX).is_ok();
     list.give(pass);
     attached
 }

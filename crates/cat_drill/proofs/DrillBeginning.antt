@@ -72,10 +72,10 @@ pull_setting m o is starts =
 -- ---- The pipe
 
 -- the pipe that came up last is fed by the lane of its wire
-pub fed : (says : Setting → List (Turn Entry) → Turn Entry → Type 0) (p place : ℕ) (lane out : List ℕ) (w : WireView) (before after : PassView) → ((z : Setting) (h : List (Turn Entry)) (t : Turn Entry) → says z h t → AttachedBy (Ok p) z h t place (numbers_of w.name)) → w.name ≡ OverLanes out lane → TookTurn says before after → IsFedBy p lane after.seen
-fed says p place lane out w before after does name t =
+pub fed : (says : Setting → List (Turn Entry) → Turn Entry → Type 0) (p place limit : ℕ) (lane out : List ℕ) (w : WireView) (before after : PassView) → ((z : Setting) (h : List (Turn Entry)) (t : Turn Entry) → says z h t → AttachedBy (Ok p) z h t place limit (numbers_of w.name)) → w.name ≡ OverLanes out lane → TookTurn says before after → IsFedBy p lane after.seen
+fed says p place limit lane out w before after does name t =
     let a = does t.label.setting t.past t.turn t.said in
-    let n = attached_named t.label.setting t.past t.turn p place (record { numbers = numbers_of w.name }) (subst (Legal t.label.setting) t.seen t.legal) a.0 a.1 in
+    let n = attached_named t.label.setting t.past t.turn p place limit (record { numbers = numbers_of w.name }) (subst (Legal t.label.setting) t.seen t.legal) a.0 a.1 in
     record {
       start = after.seen;
       starts = ([], sym (append-nil after.seen));

@@ -222,7 +222,7 @@ later_pipe : (p q n : ℕ) → p ≤ n → q ≡ n + 1 → (q == p) ≡ false
 later_pipe p q n low is = grind (arith, nat_tests, low, is)
 
 named_step : (z : Setting) (p : ℕ) (name : List ℕ) (k : ℕ) (before : List Entry) (e : Entry) → Named p name before → Allowed z k before e → Named p name (e ∷ before)
-named_step z p name k before (Up q place n) h a = record { is = rw (later_pipe p q (ups before) h.known a.itself.0) h.is; known = omega (arith, h.known) }
+named_step z p name k before (Up q place limit n) h a = record { is = rw (later_pipe p q (ups before) h.known a.itself.0) h.is; known = omega (arith, h.known) }
 named_step z p name k before _ h a = record { is = h.is; known = h.known }
 
 pub still_named : (z : Setting) (h g : List (Turn Entry)) (p : ℕ) (name : List ℕ) → Legal z (h ++ g) → name_of (past_of h) p ≡ Some name → p ≤ ups (past_of h) → name_of (past_of (h ++ g)) p ≡ Some name
@@ -256,11 +256,11 @@ same_pipe : (p : ℕ) → (p == p) ≡ true
 same_pipe p = grind (arith, nat_tests)
 
 -- after the turn in which the pipe came up it has its name
-pub attached_named : (z : Setting) (h : List (Turn Entry)) (t : Turn Entry) (p place : ℕ) (name : WireNumbers) → Legal z (h ++ t ∷ []) → p ≡ ups (past_of h) + 1 → HasFirst (Up p place name) t → (name_of (past_of (h ++ t ∷ [])) p ≡ Some name.numbers) × (p ≤ ups (past_of (h ++ t ∷ [])))
-attached_named z h t p place name l is f =
+pub attached_named : (z : Setting) (h : List (Turn Entry)) (t : Turn Entry) (p place limit : ℕ) (name : WireNumbers) → Legal z (h ++ t ∷ []) → p ≡ ups (past_of h) + 1 → HasFirst (Up p place limit name) t → (name_of (past_of (h ++ t ∷ [])) p ≡ Some name.numbers) × (p ≤ ups (past_of (h ++ t ∷ [])))
+attached_named z h t p place limit name l is f =
     let turn = (legal_rest z [] h (t ∷ []) l).0 in
     let follows = (subst (λ (es : List Entry). Follows z t.number (past_of h) es) f.entries turn.entries).1 in
-    let up : Named p name.numbers (Up p place name ∷ past_of h) = record { is = rw (same_pipe p) refl; known = omega (arith, is) } in
-    let n = along_turn z (Named p name.numbers) (named_step z p name.numbers) t.number (Up p place name ∷ past_of h) f.late up follows in
-    let e : past_of (h ++ t ∷ []) ≡ onto f.late (Up p place name ∷ past_of h) = past_both [] h (t ∷ []) ∙ ap (λ (es : List Entry). onto es (past_of h)) f.entries in
+    let up : Named p name.numbers (Up p place limit name ∷ past_of h) = record { is = rw (same_pipe p) refl; known = omega (arith, is) } in
+    let n = along_turn z (Named p name.numbers) (named_step z p name.numbers) t.number (Up p place limit name ∷ past_of h) f.late up follows in
+    let e : past_of (h ++ t ∷ []) ≡ onto f.late (Up p place limit name ∷ past_of h) = past_both [] h (t ∷ []) ∙ ap (λ (es : List Entry). onto es (past_of h)) f.entries in
     (ap (λ (x : List Entry). name_of x p) e ∙ n.is, subst (λ (x : List Entry). p ≤ ups x) (sym e) n.known)

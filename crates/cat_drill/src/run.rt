@@ -32,6 +32,9 @@ use std::thread::Threads;
 /// The capacity of the lane, in messages.
 const LANE: u32 = 64;
 
+// The receive limit of a pipe over lanes: none.
+const NO_LIMIT: u32 = u32::MAX;
+
 /// What a drill returns (nngcat(1)).
 #[derive(Drop)]
 pub struct DrillEnd {
@@ -236,7 +239,7 @@ fn drill_on<R: AllocGlobal + Wait + Threads + Sync, G: Gate + Sync, S: Sink>(
         drill_wire,
     } = opened;
     let mut four_callers = four_callers_of(&mut list, &socket);
-    match socket.attach(rt, &mut four_callers.main, drill_wire, 0) {
+    match socket.attach(rt, &mut four_callers.main, drill_wire, 0, NO_LIMIT) {
         Ok(pipe) => {
             let joined = JoinedDrill {
                 socket,

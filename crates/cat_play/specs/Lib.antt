@@ -6,3 +6,4 @@ pub mod Spending
 pub mod Drilling
 pub mod Running
 pub mod Steps
+pub mod Ends

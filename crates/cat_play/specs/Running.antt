@@ -31,7 +31,7 @@ use Rattle.cat_play.specs.Plans.{Play, IsPlayOf}
 use Rattle.cat_play.specs.Scripts.{counted, texts, joined, has_reached, timed_out, ends_received}
 use Rattle.cat_play.specs.Playing.{Plays}
 use Rattle.sp_links.specs.Ways.{Ways}
-use Rattle.sp_ends.specs.LinkRecords.{lane_place, place_of, Records, max_body, AreWhole, has_dry_miss, KeepsOthers}
+use Rattle.sp_ends.specs.LinkRecords.{lane_place, place_of, Records, AreWhole, has_dry_miss, KeepsOthers}
 use Rattle.cat_play.specs.Spending.{Spends, EndsInTime}
 use Rattle.cat_play.specs.Drilling.{lines, Drills, GivesAll}
 
@@ -116,7 +116,7 @@ pub record Runs (ways : Ways) (s : Status) (plan : CatPlan) (play : Play) (dice 
   pub closed : IsTrue (is_closed (past_of record_))
   pub plays : Plays (run_setting plan.role dice) play record_
   pub printed : Printed s (texts play (past_of record_)) old new
-  pub records : Records ways (run_setting plan.role dice) max_body old.net.opened new.net.opened new.net.back record_
+  pub records : Records ways (run_setting plan.role dice) (plan.recv_max ∷ []) old.net.opened new.net.opened new.net.back record_
   pub others : KeepsOthers old.net new.net
   pub spends : Spends plan.ends record_ old.net new.net old.pace new.pace
   pub ended : EndedFor s (run_setting plan.role dice) plan play (past_of record_) old new

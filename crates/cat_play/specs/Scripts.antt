@@ -3,7 +3,7 @@ use Rattle.std.specs.Prelude.{ℕ, ◌+◌, nat_le, Bool, true, false, not, ◌&
 use Rattle.std.specs.List.{flat_map}
 use Rattle.sp_base.specs.declared.OpName.{OpName}
 use Rattle.sp_base.specs.declared.role.Role.{Role}
-use Rattle.sp_base.specs.declared.role.Role.TheVariants.{Pair0, Pub, Sub, Req, Rep, Push, Pull, Surveyor, Respondent, Bus}
+use Rattle.sp_base.specs.declared.role.Role.TheVariants.{Pair0, Pair1, Pub, Sub, Req, Rep, Push, Pull, Surveyor, Respondent, Bus}
 use Rattle.sp_history.specs.declared.entry.RecordedAct.{RecordedAct}
 use Rattle.sp_history.specs.declared.entry.RecordedAct.TheVariants.{Recv, Send}
 use Rattle.sp_history.specs.declared.entry.Completion.TheVariants.{Received, Sent}
@@ -65,8 +65,8 @@ abbrev pub asks_anew : Setting → List Entry → Bool
 asks_anew z past = is_state z past 0 Recv
 
 -- The table of plays: whether the next call is a receive. The flags say whether the plan has data, and whether a receive
--- is refused; then the result that was collected last. A pull or sub receives, a push or pub sends, a pair or bus sends
--- its data, or receives where it has none. A req sends, and receives after each send. A surveyor sends where no survey is
+-- is refused; then the result that was collected last. A pull or sub receives, a push or pub sends, a pair (of version 0
+-- or 1) or bus sends its data, or receives where it has none. A req sends, and receives after each send. A surveyor sends where no survey is
 -- live, and receives while one is. A rep or respondent receives, and with data sends after each receive
 abbrev pub receives_next : Role → Bool → Bool → Option Ending → Bool
 receives_next Pull has_data refused last = true
@@ -74,6 +74,7 @@ receives_next Sub has_data refused last = true
 receives_next Push has_data refused last = false
 receives_next Pub has_data refused last = false
 receives_next Pair0 has_data refused last = not has_data
+receives_next Pair1 has_data refused last = not has_data
 receives_next Bus has_data refused last = not has_data
 receives_next Req has_data refused (Some (Won Sent)) = true
 receives_next Req has_data refused last = false

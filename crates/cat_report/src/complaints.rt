@@ -3,7 +3,8 @@
 use crate::addresses::fault_of;
 use crate::said::{Said, is_end, missing, said_at};
 use crate::spellings::spelling_of;
-use cat_run::{Status, complaint};
+use cat_play::ends::complaint;
+use cat_play::status::Status;
 use cat_text::{Format, name_word, print};
 use sp_base::{Bytes, NoMemory};
 use std::alloc::Global;

@@ -1,7 +1,7 @@
 //! What `--help` and `--version` print.
 use crate::complaints::{Ending, say};
-use cat_run::Status;
-use cat_run::real::Reason;
+use cat_play::status::Status;
+use sp_real::Reason;
 use std::alloc::Global;
 
 /// The text for `--help` as the only word.
@@ -10,11 +10,12 @@ Usage: nngcat ROLE ENDPOINT.. [OPTION]..
 Sends or receives messages over a scalability protocol; prints what it receives.
 A value is the next word, or behind =, as in --count=3. Options in any order.
 
-Roles (exactly one; each also with 0 at its end):
+Roles (exactly one; each but pair1 also with 0 at its end):
   --push  sends to one peer each        --pull  receives from all peers
   --pub   sends to all subscribers      --sub   takes what begins with a topic
   --req   sends data, prints its reply  --rep   prints requests, sends data back
   --pair  one peer: sends data, or receives where it has none
+  --pair1 the same in version 1 of the protocol, for peers of that version
   --bus   all peers: sends data, or receives where it has none
   --respondent  prints surveys, answers with data
   --surveyor    sends data to all, prints what is answered within a second
@@ -32,9 +33,12 @@ Data (push, pub, req and surveyor need one of the two, pull and sub take none):
   --data TEXT             send TEXT
   --file NAME             send what the file NAME holds; - is standard input
 
-What a sub takes:
-  --subscribe TEXT        messages that begin with TEXT, of at most 1,024 bytes;
-                          up to 64 times. Without it a sub takes all
+What is taken:
+  --subscribe TEXT        by a sub: messages that begin with TEXT, of at most
+                          1,024 bytes; up to 64 times. Without it all
+  --recv-max BYTES        the longest message, 0 to 2,147,483,647; 0 is the same
+                          as 2,147,483,647. A longer one ends its connection.
+                          Default: 1,048,576. No limit within the command
 
 How it is printed (one format at most; without one nothing is printed):
   --raw                   the bytes as they are

@@ -2,7 +2,7 @@
 //! (nngcat(1)).
 //!
 //! `help` has the two texts for standard output. `complaints` has the lines on standard error: the first is the
-//! status's own (`complaint` of `cat_run`), the others help the reader and also begin with `nngcat: `. `said` finds the
+//! status's own (`complaint` of `cat_play`), the others help the reader and also begin with `nngcat: `. `said` finds the
 //! options among words, `spellings` names what replaces an option of NNG's own nngcat, and `addresses` finds where a
 //! text stops being an address. Everything is generic over the output.
 #![tactic(auto)]

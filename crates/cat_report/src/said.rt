@@ -14,7 +14,7 @@ pub struct Said<'a> {
 fn has_value(name: &str) -> bool {
     match name {
         "--listen" | "--dial" | "--data" | "--file" | "--subscribe" | "--count" => true,
-        "--interval" | "--recv-timeout" | "--send-timeout" | "--drill" => true,
+        "--interval" | "--recv-timeout" | "--send-timeout" | "--recv-max" | "--drill" => true,
         _ => false,
     }
 }

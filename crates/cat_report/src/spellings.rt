@@ -10,8 +10,6 @@ const DIAL_PATH: &str = "--dial ipc://PATH";
 
 const FORMATS: &str = "--raw, --ascii, --quoted, --hex, --msgpack or none of them";
 
-const PAIR: &str = "--pair, to a peer that speaks version 0 of the protocol";
-
 const NOTHING: &str = "nothing stands in its place here";
 
 /// What to write here in place of an option of NNG's own nngcat; `None` where it isn't one, or is spelt the same.
@@ -32,7 +30,7 @@ pub fn spelling_of(name: &str) -> Option<&'static str> {
         "-X" | "--bind-ipc" => Some(LISTEN_AT_PATH),
         "-x" | "--connect-ipc" => Some(DIAL_PATH),
         "--format" => Some(FORMATS),
-        "--pair1" => Some(PAIR),
+        "-Z" | "--recv-maxsz" => Some("--recv-max"),
         _ => nothing_for(name),
     }
 }
@@ -40,7 +38,7 @@ pub fn spelling_of(name: &str) -> Option<&'static str> {
 // The same for options without a replacement.
 fn nothing_for(name: &str) -> Option<&'static str> {
     match name {
-        "-d" | "--delay" | "-Z" | "--recv-maxsz" => Some(NOTHING),
+        "-d" | "--delay" => Some(NOTHING),
         "-q" | "--silent" | "-v" | "--verbose" => Some(NOTHING),
         "--compat" | "--async" | "--zt-home" => Some(NOTHING),
         "-k" | "--insecure" | "--cacert" => Some(NOTHING),

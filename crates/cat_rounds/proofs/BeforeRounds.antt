@@ -71,7 +71,7 @@ ends_begin seen z start =
         faults = omega arith;
         rose = λ i f. omega arith;
       };
-      of_run = record { listens = tt; dials = tt; dice = refl };
+      of_run = record { listens = tt; dials = tt; dice = refl; listen_limits = tt; dial_limits = tt };
     }
   where
     none_some : (n : ℕ) → None ≡ Some n → ⊥
@@ -165,13 +165,13 @@ plan_begins seen net s e plan body p dice empty uncancelled setting none new bui
     role = ap (λ (z : Setting). z.role) setting
 
 -- each end of the plan is one of the run's
-pub all_ends_of : (plan : CatPlan) (dice : ℕ) → AllByRecursion (IsEndOf (origins_of plan dice)) plan.ends
-all_ends_of plan dice = among_all (origins_of plan dice) plan.ends (λ a x. x) (λ a x. x)
+pub all_ends_of : (plan : CatPlan) (dice : ℕ) → AllByRecursion (IsEndOf (origins_of plan dice) plan.recv_max) plan.ends
+all_ends_of plan dice = among_all (origins_of plan dice) plan.recv_max plan.ends (inl refl) (λ a x. x) (λ a x. x)
   where
-    among_all : (o : Origins) (es : List End) → ((a : Addr) → IsAmong a (listen_addrs es) → IsAmong a o.listens) → ((a : Addr) → IsAmong a (dial_addrs es) → IsAmong a o.dials) → AllByRecursion (IsEndOf o) es
-    among_all o [] listens dials = tt
-    among_all o (ends.Listen addr ∷ es) listens dials = (listens addr (inl refl), among_all o es (λ a x. listens a (inr x)) dials)
-    among_all o (ends.Dial addr ∷ es) listens dials = (dials addr (inl refl), among_all o es listens (λ a x. dials a (inr x)))
+    among_all : (o : Origins) (max : ℕ) (es : List End) → IsAmong max o.limits → ((a : Addr) → IsAmong a (listen_addrs es) → IsAmong a o.listens) → ((a : Addr) → IsAmong a (dial_addrs es) → IsAmong a o.dials) → AllByRecursion (IsEndOf o max) es
+    among_all o max [] limit listens dials = tt
+    among_all o max (ends.Listen addr ∷ es) limit listens dials = ((listens addr (inl refl), limit), among_all o max es limit (λ a x. listens a (inr x)) dials)
+    among_all o max (ends.Dial addr ∷ es) limit listens dials = ((dials addr (inl refl), limit), among_all o max es limit listens (λ a x. dials a (inr x)))
 
 -- its socket takes its topics
 pub can_subscribe : (s : SingleView) (plan : CatPlan) (body : Option (List ℕ)) (p : Player) (dice : ℕ) → s.setting ≡ run_setting plan.role dice → IsNewPlayer (script_of plan body) p → IsBuilt plan → CanSubscribe s.setting p.script.topics

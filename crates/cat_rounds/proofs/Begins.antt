@@ -124,6 +124,7 @@ state_of_send roles.Surveyor z past m n = refl
 state_of_send roles.Rep z past m n = refl
 state_of_send roles.Respondent z past m n = refl
 state_of_send roles.Pair0 z past m n = refl
+state_of_send roles.Pair1 z past m n = refl
 state_of_send roles.Pub z past m n = refl
 state_of_send roles.Sub z past m n = refl
 state_of_send roles.Push z past m n = refl

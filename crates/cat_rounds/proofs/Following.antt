@@ -19,7 +19,7 @@ use Rattle.sp_history.specs.Past.{past_of}
 use Rattle.sp_links.specs.Origins.{IsAmong}
 use Rattle.sp_ends.specs.declared.dialer.Dialer.{Dialer}
 use Rattle.sp_ends.specs.declared.listener.Listener.{Listener}
-use Rattle.sp_ends.specs.EndsTurns.{addrs_of}
+use Rattle.sp_ends.specs.EndsTurns.{targets_of}
 use Rattle.sp_ends.specs.EndViews.{Beginning, EndsView, LinkEndsView, NamesView}
 use Rattle.sp_ends.specs.RunLinks.{EndsStand, LinksKept, IsListener, tries_of}
 use Rattle.sp_ends.specs.DialMoments.{IsDueAt}
@@ -82,8 +82,8 @@ length_more : {A : Type 0} (xs : List A) (x : A) → length (xs ++ x ∷ []) ≡
 length_more [] x = refl
 length_more (y ∷ xs) x = let e = length_more xs x in omega (arith, e)
 
-pub listens_more : {L : Type 0} (seen : L → LinkView) (z : Setting) (start : Beginning) (net net' : NetView) (e e' : LinkEndsView L) (l : Listener) → is_linked l.addr ≡ true → IsAmong l.addr start.origins.listens → ListensAt l.at (scheme_of l.addr) net net' → e' ≡ record e { listeners = e.listeners ++ l ∷ [] } → length e.listeners + length e.dialers < 64 → EndsStand seen z start [] net e → EndsStand seen z start [] net' e'
-listens_more seen z start net net' e e' l linked among at is few s =
+pub listens_more : {L : Type 0} (seen : L → LinkView) (z : Setting) (start : Beginning) (net net' : NetView) (e e' : LinkEndsView L) (l : Listener) → is_linked l.addr ≡ true → IsAmong l.addr start.origins.listens → IsAmong l.max start.origins.limits → ListensAt l.at (scheme_of l.addr) net net' → e' ≡ record e { listeners = e.listeners ++ l ∷ [] } → length e.listeners + length e.dialers < 64 → EndsStand seen z start [] net e → EndsStand seen z start [] net' e'
+listens_more seen z start net net' e e' l linked among limited at is few s =
     subst (λ (x : LinkEndsView _). EndsStand seen z start [] net' x) (sym is) (record {
       role = s.role;
       links = record { kept = links_kept z start [] net net' at.opened at.back s.links.kept; progressing = s.links.progressing };
@@ -96,7 +96,7 @@ listens_more seen z start net net' e e' l linked among at is few s =
         faults = omega (arith, at.faults, s.asked.faults);
         rose = λ i f. (let r = s.asked.rose (omega (arith, at.idles, i)) (omega (arith, at.faults, f)) in omega (arith, r, at.idles, at.faults, at.opened));
       };
-      of_run = record { listens = all_more (λ (x : Listener). IsAmong x.addr start.origins.listens) e.listeners l s.of_run.listens among; dials = s.of_run.dials; dice = s.of_run.dice };
+      of_run = record { listens = all_more (λ (x : Listener). IsAmong x.addr start.origins.listens) e.listeners l s.of_run.listens among; dials = s.of_run.dials; dice = s.of_run.dice; listen_limits = all_more (λ (x : Listener). IsAmong x.max start.origins.limits) e.listeners l s.of_run.listen_limits limited; dial_limits = s.of_run.dial_limits };
     })
 
 -- ---- One more dialer
@@ -109,8 +109,8 @@ tries_more (x ∷ ds) d t = let r = tries_more ds d t in omega (arith, r)
 at_once : (d : Dialer) → d.next ≡ Some 0 → (t : ℕ) → IsDueAt d.next t
 at_once d next t = subst (λ (o : Option ℕ). IsDueAt o t) (sym next) (omega arith)
 
-pub dials_more : {L : Type 0} (seen : L → LinkView) (z : Setting) (start : Beginning) (net : NetView) (e e' : LinkEndsView L) (d : Dialer) (addr : Addr) → IsNewDialer addr d → IsAmong addr start.origins.dials → e' ≡ record e { dialers = e.dialers ++ d ∷ [] } → length e.listeners + length e.dialers < 64 → EndsStand seen z start [] net e → EndsStand seen z start [] net e'
-dials_more seen z start net e e' d addr n among is few s =
+pub dials_more : {L : Type 0} (seen : L → LinkView) (z : Setting) (start : Beginning) (net : NetView) (e e' : LinkEndsView L) (d : Dialer) (addr : Addr) (max : ℕ) → IsNewDialer addr max d → IsAmong addr start.origins.dials → IsAmong max start.origins.limits → e' ≡ record e { dialers = e.dialers ++ d ∷ [] } → length e.listeners + length e.dialers < 64 → EndsStand seen z start [] net e → EndsStand seen z start [] net e'
+dials_more seen z start net e e' d addr max n among limited is few s =
     subst (λ (x : LinkEndsView _). EndsStand seen z start [] net x) (sym is) (record {
       role = s.role;
       links = s.links;
@@ -123,7 +123,7 @@ dials_more seen z start net e e' d addr n among is few s =
         faults = s.asked.faults;
         rose = λ i f. (let r = s.asked.rose i f in let t = tries_more e.dialers d n.tries in omega (arith, r, t));
       };
-      of_run = record { listens = s.of_run.listens; dials = all_more (λ (x : Dialer). IsAmong x.addr start.origins.dials) e.dialers d s.of_run.dials (subst (λ (a : Addr). IsAmong a start.origins.dials) (sym n.addr_is) among); dice = s.of_run.dice };
+      of_run = record { listens = s.of_run.listens; dials = all_more (λ (x : Dialer). IsAmong x.addr start.origins.dials) e.dialers d s.of_run.dials (subst (λ (a : Addr). IsAmong a start.origins.dials) (sym n.addr_is) among); dice = s.of_run.dice; listen_limits = s.of_run.listen_limits; dial_limits = all_more (λ (x : Dialer). IsAmong x.max start.origins.limits) e.dialers d s.of_run.dial_limits (subst (λ (m : ℕ). IsAmong m start.origins.limits) (sym n.max_is) limited) };
     })
 
 -- ---- One more end of the plan
@@ -253,12 +253,12 @@ same_names reg reg' e = ap names e ∙ sym (append_none (names reg))
 same_net : (net net' : NetView) → net' ≡ net → (net'.opened ≡ net.opened) × (net.faults ≤ net'.faults)
 same_net net net' e = (ap (λ (m : NetView). m.opened) e, let q = ap (λ (m : NetView). m.faults) e in omega (arith, q))
 
-listened : {L : Type 0} (net net' : NetView) (e e' : LinkEndsView L) (addr : Addr) → ListensLink (Ok tt) addr e e' net net' → (length e'.listeners ≡ length e.listeners + 1) × (length e'.dialers ≡ length e.dialers + 0) × (net'.opened ≡ net.opened) × (net.faults ≤ net'.faults)
-listened net net' e e' addr (l, of, is, at) =
+listened : {L : Type 0} (net net' : NetView) (e e' : LinkEndsView L) (addr : Addr) (max : ℕ) → ListensLink (Ok tt) addr max e e' net net' → (length e'.listeners ≡ length e.listeners + 1) × (length e'.dialers ≡ length e.dialers + 0) × (net'.opened ≡ net.opened) × (net.faults ≤ net'.faults)
+listened net net' e e' addr max (l, of, limit, is, at) =
     (ap (λ (w : LinkEndsView _). length w.listeners) is ∙ length_more e.listeners l, ap (λ (w : LinkEndsView _). length w.dialers) is ∙ omega arith, at.opened, at.faults)
 
-dialed : {L : Type 0} (e e' : LinkEndsView L) (addr : Addr) → DialsLink (Ok tt) addr e e' → (length e'.listeners ≡ length e.listeners + 0) × (length e'.dialers ≡ length e.dialers + 1)
-dialed e e' addr (d, n, is) =
+dialed : {L : Type 0} (e e' : LinkEndsView L) (addr : Addr) (max : ℕ) → DialsLink (Ok tt) addr max e e' → (length e'.listeners ≡ length e.listeners + 0) × (length e'.dialers ≡ length e.dialers + 1)
+dialed e e' addr max (d, n, is) =
     (ap (λ (w : LinkEndsView _). length w.listeners) is ∙ omega arith, ap (λ (w : LinkEndsView _). length w.dialers) is ∙ length_more e.dialers d)
 
 same_links : {L : Type 0} (e e' : LinkEndsView L) → e' ≡ e → (length e'.listeners ≡ length e.listeners + 0) × (length e'.dialers ≡ length e.dialers + 0)
@@ -273,33 +273,33 @@ still_apart : (reg reg' : Registry) (old new : NamesView) (name : List ℕ) (rol
 still_apart reg reg' old new name role (is, (unlisted, more)) apart =
     subst AreApart (sym (ap names more ∙ names_more reg (record { name = name; role = role; halves = [] }))) (apart_more name (names reg) apart (unlisted_new name reg unlisted))
 
-pub grows : {L : Type 0} (net net' : NetView) (reg reg' : Registry) (e e' : EndsView L) (x : End) → AddsEnd (Ok tt) x e e' net net' reg reg' → GrowsBy net net' reg reg' e e' x
-grows net net' reg reg' e e' (ends.Listen (addrs.Tcp host port)) (link, kept, same) =
-    let g = listened net net' e.links e'.links (addrs.Tcp host port) link in
+pub grows : {L : Type 0} (net net' : NetView) (reg reg' : Registry) (e e' : EndsView L) (x : End) (max : ℕ) → AddsEnd (Ok tt) x max e e' net net' reg reg' → GrowsBy net net' reg reg' e e' x
+grows net net' reg reg' e e' (ends.Listen (addrs.Tcp host port)) max (link, kept, same) =
+    let g = listened net net' e.links e'.links (addrs.Tcp host port) max link in
     record { listens = g.0; dials = g.1; opened = g.2; faults = g.3; one = omega arith; names_are = same_names reg reg' same; apart = same_apart reg reg' same }
-grows net net' reg reg' e e' (ends.Listen (addrs.Ws host port path)) (link, kept, same) =
-    let g = listened net net' e.links e'.links (addrs.Ws host port path) link in
+grows net net' reg reg' e e' (ends.Listen (addrs.Ws host port path)) max (link, kept, same) =
+    let g = listened net net' e.links e'.links (addrs.Ws host port path) max link in
     record { listens = g.0; dials = g.1; opened = g.2; faults = g.3; one = omega arith; names_are = same_names reg reg' same; apart = same_apart reg reg' same }
-grows net net' reg reg' e e' (ends.Listen (addrs.Ipc path)) (link, kept, same) =
-    let g = listened net net' e.links e'.links (addrs.Ipc path) link in
+grows net net' reg reg' e e' (ends.Listen (addrs.Ipc path)) max (link, kept, same) =
+    let g = listened net net' e.links e'.links (addrs.Ipc path) max link in
     record { listens = g.0; dials = g.1; opened = g.2; faults = g.3; one = omega arith; names_are = same_names reg reg' same; apart = same_apart reg reg' same }
-grows net net' reg reg' e e' (ends.Listen (addrs.Inproc name)) (named, kept, same) =
+grows net net' reg reg' e e' (ends.Listen (addrs.Inproc name)) max (named, kept, same) =
     let g = same_links e.links e'.links kept in
     let m = same_net net net' same in
     record { listens = g.0; dials = g.1; opened = m.0; faults = m.1; one = omega arith; names_are = one_more reg reg' e.names e'.names name e.links.role named; apart = still_apart reg reg' e.names e'.names name e.links.role named }
-grows net net' reg reg' e e' (ends.Dial (addrs.Tcp host port)) ((link, kept), same, same_reg) =
-    let g = dialed e.links e'.links (addrs.Tcp host port) link in
+grows net net' reg reg' e e' (ends.Dial (addrs.Tcp host port)) max ((link, kept), same, same_reg) =
+    let g = dialed e.links e'.links (addrs.Tcp host port) max link in
     let m = same_net net net' same in
     record { listens = g.0; dials = g.1; opened = m.0; faults = m.1; one = omega arith; names_are = same_names reg reg' same_reg; apart = same_apart reg reg' same_reg }
-grows net net' reg reg' e e' (ends.Dial (addrs.Ws host port path)) ((link, kept), same, same_reg) =
-    let g = dialed e.links e'.links (addrs.Ws host port path) link in
+grows net net' reg reg' e e' (ends.Dial (addrs.Ws host port path)) max ((link, kept), same, same_reg) =
+    let g = dialed e.links e'.links (addrs.Ws host port path) max link in
     let m = same_net net net' same in
     record { listens = g.0; dials = g.1; opened = m.0; faults = m.1; one = omega arith; names_are = same_names reg reg' same_reg; apart = same_apart reg reg' same_reg }
-grows net net' reg reg' e e' (ends.Dial (addrs.Ipc path)) ((link, kept), same, same_reg) =
-    let g = dialed e.links e'.links (addrs.Ipc path) link in
+grows net net' reg reg' e e' (ends.Dial (addrs.Ipc path)) max ((link, kept), same, same_reg) =
+    let g = dialed e.links e'.links (addrs.Ipc path) max link in
     let m = same_net net net' same in
     record { listens = g.0; dials = g.1; opened = m.0; faults = m.1; one = omega arith; names_are = same_names reg reg' same_reg; apart = same_apart reg reg' same_reg }
-grows net net' reg reg' e e' (ends.Dial (addrs.Inproc name)) ((named, kept), same, same_reg) =
+grows net net' reg reg' e e' (ends.Dial (addrs.Inproc name)) max ((named, kept), same, same_reg) =
     let g = same_links e.links e'.links kept in
     let m = same_net net net' same in
     record { listens = g.0; dials = g.1; opened = m.0; faults = m.1; one = omega arith; names_are = same_names reg reg' same_reg; apart = same_apart reg reg' same_reg }
@@ -313,54 +313,54 @@ stood : {L : Type 0} (seen : L → LinkView) (start : Beginning) (net : NetView)
 stood seen start net s e empty links =
     subst (λ (h : List (Turn Entry)). EndsStand seen s.setting start h net e) empty links.ends_stand
 
-listens_link : {L : Type 0} (seen : L → LinkView) (start : Beginning) (net net' : NetView) (s : SingleView) (e e' : LinkEndsView L) (addr : Addr) → s.seen ≡ [] → is_linked addr ≡ true → IsAmong addr start.origins.listens → ListensLink (Ok tt) addr e e' net net' → length e.listeners + length e.dialers < 64 → LinksStand seen start s e net false
+listens_link : {L : Type 0} (seen : L → LinkView) (start : Beginning) (net net' : NetView) (s : SingleView) (e e' : LinkEndsView L) (addr : Addr) (max : ℕ) → s.seen ≡ [] → is_linked addr ≡ true → IsAmong addr start.origins.listens → IsAmong max start.origins.limits → ListensLink (Ok tt) addr max e e' net net' → length e.listeners + length e.dialers < 64 → LinksStand seen start s e net false
     → LinksStand seen start s e' net' false
-listens_link seen start net net' s e e' addr empty linked of_plan (l, same, is, at) few links =
-    with_ends seen start net net' s e e' empty links (listens_more seen s.setting start net net' e e' l (subst (λ (a : Addr). is_linked a ≡ true) (sym same) linked) (subst (λ (a : Addr). IsAmong a start.origins.listens) (sym same) of_plan) (subst (λ (a : Addr). ListensAt l.at (scheme_of a) net net') (sym same) at) is few (stood seen start net s e empty links))
+listens_link seen start net net' s e e' addr max empty linked of_plan limited (l, same, limit, is, at) few links =
+    with_ends seen start net net' s e e' empty links (listens_more seen s.setting start net net' e e' l (subst (λ (a : Addr). is_linked a ≡ true) (sym same) linked) (subst (λ (a : Addr). IsAmong a start.origins.listens) (sym same) of_plan) (subst (λ (m : ℕ). IsAmong m start.origins.limits) (sym limit) limited) (subst (λ (a : Addr). ListensAt l.at (scheme_of a) net net') (sym same) at) is few (stood seen start net s e empty links))
 
-dials_link : {L : Type 0} (seen : L → LinkView) (start : Beginning) (net net' : NetView) (s : SingleView) (e e' : LinkEndsView L) (addr : Addr) → s.seen ≡ [] → IsAmong addr start.origins.dials → DialsLink (Ok tt) addr e e' → net' ≡ net → length e.listeners + length e.dialers < 64 → LinksStand seen start s e net false
+dials_link : {L : Type 0} (seen : L → LinkView) (start : Beginning) (net net' : NetView) (s : SingleView) (e e' : LinkEndsView L) (addr : Addr) (max : ℕ) → s.seen ≡ [] → IsAmong addr start.origins.dials → IsAmong max start.origins.limits → DialsLink (Ok tt) addr max e e' → net' ≡ net → length e.listeners + length e.dialers < 64 → LinksStand seen start s e net false
     → LinksStand seen start s e' net' false
-dials_link seen start net net' s e e' addr empty of_plan (d, n, is) same few links =
-    subst (λ (m : NetView). LinksStand seen start s e' m false) (sym same) (with_ends seen start net net s e e' empty links (dials_more seen s.setting start net e e' d addr n of_plan is few (stood seen start net s e empty links)))
+dials_link seen start net net' s e e' addr max empty of_plan limited (d, n, is) same few links =
+    subst (λ (m : NetView). LinksStand seen start s e' m false) (sym same) (with_ends seen start net net s e e' empty links (dials_more seen s.setting start net e e' d addr max n of_plan limited is few (stood seen start net s e empty links)))
 
 -- what holds of the ends still holds, where those over links and the net are unchanged
 kept_ends : {L : Type 0} (seen : L → LinkView) (start : Beginning) (net net' : NetView) (s : SingleView) (e e' : LinkEndsView L) (is_dry : Bool) → e' ≡ e → net' ≡ net → LinksStand seen start s e net is_dry → LinksStand seen start s e' net' is_dry
 kept_ends seen start net net' s e e' is_dry is same links =
     subst (λ (m : NetView). LinksStand seen start s e' m is_dry) (sym same) (subst (λ (w : LinkEndsView _). LinksStand seen start s w net is_dry) (sym is) links)
 
-pub adds : {L : Type 0} (seen : L → LinkView) (start : Beginning) (net net' : NetView) (reg reg' : Registry) (s : SingleView) (e e' : EndsView L) (x : End) → s.seen ≡ [] → IsEndOf start.origins x → AddsEnd (Ok tt) x e e' net net' reg reg' → length e.links.listeners + length e.links.dialers < 64 → LinksStand seen start s e.links net false
+pub adds : {L : Type 0} (seen : L → LinkView) (start : Beginning) (net net' : NetView) (reg reg' : Registry) (s : SingleView) (e e' : EndsView L) (x : End) (max : ℕ) → s.seen ≡ [] → IsEndOf start.origins max x → AddsEnd (Ok tt) x max e e' net net' reg reg' → length e.links.listeners + length e.links.dialers < 64 → LinksStand seen start s e.links net false
     → LinksStand seen start s e'.links net' false
-adds seen start net net' reg reg' s e e' (ends.Listen (addrs.Tcp host port)) empty of_plan (link, kept, same) few links =
-    listens_link seen start net net' s e.links e'.links (addrs.Tcp host port) empty refl of_plan link few links
-adds seen start net net' reg reg' s e e' (ends.Listen (addrs.Ws host port path)) empty of_plan (link, kept, same) few links =
-    listens_link seen start net net' s e.links e'.links (addrs.Ws host port path) empty refl of_plan link few links
-adds seen start net net' reg reg' s e e' (ends.Listen (addrs.Ipc path)) empty of_plan (link, kept, same) few links =
-    listens_link seen start net net' s e.links e'.links (addrs.Ipc path) empty refl of_plan link few links
-adds seen start net net' reg reg' s e e' (ends.Listen (addrs.Inproc name)) empty of_plan (named, kept, same) few links =
+adds seen start net net' reg reg' s e e' (ends.Listen (addrs.Tcp host port)) max empty of_plan (link, kept, same) few links =
+    listens_link seen start net net' s e.links e'.links (addrs.Tcp host port) max empty refl of_plan.0 of_plan.1 link few links
+adds seen start net net' reg reg' s e e' (ends.Listen (addrs.Ws host port path)) max empty of_plan (link, kept, same) few links =
+    listens_link seen start net net' s e.links e'.links (addrs.Ws host port path) max empty refl of_plan.0 of_plan.1 link few links
+adds seen start net net' reg reg' s e e' (ends.Listen (addrs.Ipc path)) max empty of_plan (link, kept, same) few links =
+    listens_link seen start net net' s e.links e'.links (addrs.Ipc path) max empty refl of_plan.0 of_plan.1 link few links
+adds seen start net net' reg reg' s e e' (ends.Listen (addrs.Inproc name)) max empty of_plan (named, kept, same) few links =
     kept_ends seen start net net' s e.links e'.links false kept same links
-adds seen start net net' reg reg' s e e' (ends.Dial (addrs.Tcp host port)) empty of_plan ((link, kept), same, same_reg) few links =
-    dials_link seen start net net' s e.links e'.links (addrs.Tcp host port) empty of_plan link same few links
-adds seen start net net' reg reg' s e e' (ends.Dial (addrs.Ws host port path)) empty of_plan ((link, kept), same, same_reg) few links =
-    dials_link seen start net net' s e.links e'.links (addrs.Ws host port path) empty of_plan link same few links
-adds seen start net net' reg reg' s e e' (ends.Dial (addrs.Ipc path)) empty of_plan ((link, kept), same, same_reg) few links =
-    dials_link seen start net net' s e.links e'.links (addrs.Ipc path) empty of_plan link same few links
-adds seen start net net' reg reg' s e e' (ends.Dial (addrs.Inproc name)) empty of_plan ((named, kept), same, same_reg) few links =
+adds seen start net net' reg reg' s e e' (ends.Dial (addrs.Tcp host port)) max empty of_plan ((link, kept), same, same_reg) few links =
+    dials_link seen start net net' s e.links e'.links (addrs.Tcp host port) max empty of_plan.0 of_plan.1 link same few links
+adds seen start net net' reg reg' s e e' (ends.Dial (addrs.Ws host port path)) max empty of_plan ((link, kept), same, same_reg) few links =
+    dials_link seen start net net' s e.links e'.links (addrs.Ws host port path) max empty of_plan.0 of_plan.1 link same few links
+adds seen start net net' reg reg' s e e' (ends.Dial (addrs.Ipc path)) max empty of_plan ((link, kept), same, same_reg) few links =
+    dials_link seen start net net' s e.links e'.links (addrs.Ipc path) max empty of_plan.0 of_plan.1 link same few links
+adds seen start net net' reg reg' s e e' (ends.Dial (addrs.Inproc name)) max empty of_plan ((named, kept), same, same_reg) few links =
     kept_ends seen start net net' s e.links e'.links false kept same links
 
 -- the same, where the socket is unchanged
-pub adds_links : {L : Type 0} (seen : L → LinkView) (start : Beginning) (net net' : NetView) (reg reg' : Registry) (s s' : SingleView) (e e' : EndsView L) (x : End) → s.seen ≡ [] → s' ≡ s → IsEndOf start.origins x → AddsEnd (Ok tt) x e e' net net' reg reg' → length e.links.listeners + length e.links.dialers < 64 → LinksStand seen start s e.links net false
+pub adds_links : {L : Type 0} (seen : L → LinkView) (start : Beginning) (net net' : NetView) (reg reg' : Registry) (s s' : SingleView) (e e' : EndsView L) (x : End) (max : ℕ) → s.seen ≡ [] → s' ≡ s → IsEndOf start.origins max x → AddsEnd (Ok tt) x max e e' net net' reg reg' → length e.links.listeners + length e.links.dialers < 64 → LinksStand seen start s e.links net false
     → LinksStand seen start s' e'.links net' false
-adds_links seen start net net' reg reg' s s' e e' x empty same of_plan added few links =
-    subst (λ (v : SingleView). LinksStand seen start v e'.links net' false) (sym same) (adds seen start net net' reg reg' s e e' x empty of_plan added few links)
+adds_links seen start net net' reg reg' s s' e e' x max empty same of_plan added few links =
+    subst (λ (v : SingleView). LinksStand seen start v e'.links net' false) (sym same) (adds seen start net net' reg reg' s e e' x max empty of_plan added few links)
 
 same_running : (s s' : SingleView) (p p' : Player) → s' ≡ s → p' ≡ p → IsRunning s p → IsRunning s' p'
 same_running s s' p p' same_s same_p r = subst (λ (v : SingleView). IsRunning v p') (sym same_s) (subst (λ (q : Player). IsRunning s q) (sym same_p) r)
 
 -- what holds of the run still holds, where the play is also unchanged
-pub adds_on : {L : Type 0} (seen : L → LinkView) (start : Beginning) (net net' : NetView) (reg reg' : Registry) (s s' : SingleView) (e e' : EndsView L) (p p' : Player) (x : End) → s.seen ≡ [] → s' ≡ s → p' ≡ p → IsEndOf start.origins x → AddsEnd (Ok tt) x e e' net net' reg reg' → length e.links.listeners + length e.links.dialers < 64 → RunStands seen start s e.links p net false
+pub adds_on : {L : Type 0} (seen : L → LinkView) (start : Beginning) (net net' : NetView) (reg reg' : Registry) (s s' : SingleView) (e e' : EndsView L) (p p' : Player) (x : End) (max : ℕ) → s.seen ≡ [] → s' ≡ s → p' ≡ p → IsEndOf start.origins max x → AddsEnd (Ok tt) x max e e' net net' reg reg' → length e.links.listeners + length e.links.dialers < 64 → RunStands seen start s e.links p net false
     → RunStands seen start s' e'.links p' net' false
-adds_on seen start net net' reg reg' s s' e e' p p' x empty same_s same_p of_plan added few run =
-    run_of seen start s' e'.links p' net' false (same_running s s' p p' same_s same_p (record { sound = run.sound; play = run.play })) (adds_links seen start net net' reg reg' s s' e e' x empty same_s of_plan added few (links_of seen start s e.links p net false run))
+adds_on seen start net net' reg reg' s s' e e' p p' x max empty same_s same_p of_plan added few run =
+    run_of seen start s' e'.links p' net' false (same_running s s' p p' same_s same_p (record { sound = run.sound; play = run.play })) (adds_links seen start net net' reg reg' s s' e e' x max empty same_s of_plan added few (links_of seen start s e.links p net false run))
 
 -- ---- The net fails to listen
 
@@ -391,41 +391,41 @@ same_run : {L : Type 0} (seen : L → LinkView) (start : Beginning) (net net' : 
 same_run seen start net net' s e e' p is_dry is same run =
     subst (λ (m : NetView). RunStands seen start s e' p m is_dry) (sym same) (subst (λ (w : LinkEndsView _). RunStands seen start s w p net is_dry) (sym is) run)
 
-refuses_link : {L : Type 0} (seen : L → LinkView) (start : Beginning) (net net' : NetView) (s : SingleView) (e e' : LinkEndsView L) (p : Player) (addr : Addr) (why : EndError) → ListensLink (Err why) addr e e' net net' → RunStands seen start s e p net false → RunStands seen start s e' p net' false
-refuses_link seen start net net' s e e' p addr errors.Fault (same, f) run =
+refuses_link : {L : Type 0} (seen : L → LinkView) (start : Beginning) (net net' : NetView) (s : SingleView) (e e' : LinkEndsView L) (p : Player) (addr : Addr) (max : ℕ) (why : EndError) → ListensLink (Err why) addr max e e' net net' → RunStands seen start s e p net false → RunStands seen start s e' p net' false
+refuses_link seen start net net' s e e' p addr max errors.Fault (same, f) run =
     subst (λ (w : LinkEndsView _). RunStands seen start s w p net' false) (sym same) (record { sound = run.sound; play = run.play; ends_stand = ends_fail seen s.setting start s.seen net net' e f run.ends_stand; dry = run.dry })
-refuses_link seen start net net' s e e' p addr errors.InUse none run = elim none [ ]
-refuses_link seen start net net' s e e' p addr errors.NoMemory (same, is) run =
+refuses_link seen start net net' s e e' p addr max errors.InUse none run = elim none [ ]
+refuses_link seen start net net' s e e' p addr max errors.NoMemory (same, is) run =
     same_run seen start net net' s e e' p false same is run
 
-refuses_dial : {L : Type 0} (e e' : LinkEndsView L) (addr : Addr) (why : EndError) → DialsLink (Err why) addr e e' → e' ≡ e
-refuses_dial e e' addr errors.Fault none = elim none [ ]
-refuses_dial e e' addr errors.InUse none = elim none [ ]
-refuses_dial e e' addr errors.NoMemory same = same
+refuses_dial : {L : Type 0} (e e' : LinkEndsView L) (addr : Addr) (max : ℕ) (why : EndError) → DialsLink (Err why) addr max e e' → e' ≡ e
+refuses_dial e e' addr max errors.Fault none = elim none [ ]
+refuses_dial e e' addr max errors.InUse none = elim none [ ]
+refuses_dial e e' addr max errors.NoMemory same = same
 
-refuses : {L : Type 0} (seen : L → LinkView) (start : Beginning) (net net' : NetView) (reg reg' : Registry) (s : SingleView) (e e' : EndsView L) (p : Player) (x : End) (why : EndError) → AddsEnd (Err why) x e e' net net' reg reg' → RunStands seen start s e.links p net false → RunStands seen start s e'.links p net' false
-refuses seen start net net' reg reg' s e e' p (ends.Listen (addrs.Tcp host port)) why (link, kept, same) run =
-    refuses_link seen start net net' s e.links e'.links p (addrs.Tcp host port) why link run
-refuses seen start net net' reg reg' s e e' p (ends.Listen (addrs.Ws host port path)) why (link, kept, same) run =
-    refuses_link seen start net net' s e.links e'.links p (addrs.Ws host port path) why link run
-refuses seen start net net' reg reg' s e e' p (ends.Listen (addrs.Ipc path)) why (link, kept, same) run =
-    refuses_link seen start net net' s e.links e'.links p (addrs.Ipc path) why link run
-refuses seen start net net' reg reg' s e e' p (ends.Listen (addrs.Inproc name)) why (named, kept, same) run =
+refuses : {L : Type 0} (seen : L → LinkView) (start : Beginning) (net net' : NetView) (reg reg' : Registry) (s : SingleView) (e e' : EndsView L) (p : Player) (x : End) (max : ℕ) (why : EndError) → AddsEnd (Err why) x max e e' net net' reg reg' → RunStands seen start s e.links p net false → RunStands seen start s e'.links p net' false
+refuses seen start net net' reg reg' s e e' p (ends.Listen (addrs.Tcp host port)) max why (link, kept, same) run =
+    refuses_link seen start net net' s e.links e'.links p (addrs.Tcp host port) max why link run
+refuses seen start net net' reg reg' s e e' p (ends.Listen (addrs.Ws host port path)) max why (link, kept, same) run =
+    refuses_link seen start net net' s e.links e'.links p (addrs.Ws host port path) max why link run
+refuses seen start net net' reg reg' s e e' p (ends.Listen (addrs.Ipc path)) max why (link, kept, same) run =
+    refuses_link seen start net net' s e.links e'.links p (addrs.Ipc path) max why link run
+refuses seen start net net' reg reg' s e e' p (ends.Listen (addrs.Inproc name)) max why (named, kept, same) run =
     same_run seen start net net' s e.links e'.links p false kept same run
-refuses seen start net net' reg reg' s e e' p (ends.Dial (addrs.Tcp host port)) why ((link, kept), same, same_reg) run =
-    same_run seen start net net' s e.links e'.links p false (refuses_dial e.links e'.links (addrs.Tcp host port) why link) same run
-refuses seen start net net' reg reg' s e e' p (ends.Dial (addrs.Ws host port path)) why ((link, kept), same, same_reg) run =
-    same_run seen start net net' s e.links e'.links p false (refuses_dial e.links e'.links (addrs.Ws host port path) why link) same run
-refuses seen start net net' reg reg' s e e' p (ends.Dial (addrs.Ipc path)) why ((link, kept), same, same_reg) run =
-    same_run seen start net net' s e.links e'.links p false (refuses_dial e.links e'.links (addrs.Ipc path) why link) same run
-refuses seen start net net' reg reg' s e e' p (ends.Dial (addrs.Inproc name)) why ((named, kept), same, same_reg) run =
+refuses seen start net net' reg reg' s e e' p (ends.Dial (addrs.Tcp host port)) max why ((link, kept), same, same_reg) run =
+    same_run seen start net net' s e.links e'.links p false (refuses_dial e.links e'.links (addrs.Tcp host port) max why link) same run
+refuses seen start net net' reg reg' s e e' p (ends.Dial (addrs.Ws host port path)) max why ((link, kept), same, same_reg) run =
+    same_run seen start net net' s e.links e'.links p false (refuses_dial e.links e'.links (addrs.Ws host port path) max why link) same run
+refuses seen start net net' reg reg' s e e' p (ends.Dial (addrs.Ipc path)) max why ((link, kept), same, same_reg) run =
+    same_run seen start net net' s e.links e'.links p false (refuses_dial e.links e'.links (addrs.Ipc path) max why link) same run
+refuses seen start net net' reg reg' s e e' p (ends.Dial (addrs.Inproc name)) max why ((named, kept), same, same_reg) run =
     same_run seen start net net' s e.links e'.links p false kept same run
 
 -- an end was refused, where the socket and the play are unchanged
-pub refuses_on : {L : Type 0} (seen : L → LinkView) (start : Beginning) (net net' : NetView) (reg reg' : Registry) (s s' : SingleView) (e e' : EndsView L) (p p' : Player) (x : End) (why : EndError) → s' ≡ s → p' ≡ p → AddsEnd (Err why) x e e' net net' reg reg' → RunStands seen start s e.links p net false
+pub refuses_on : {L : Type 0} (seen : L → LinkView) (start : Beginning) (net net' : NetView) (reg reg' : Registry) (s s' : SingleView) (e e' : EndsView L) (p p' : Player) (x : End) (max : ℕ) (why : EndError) → s' ≡ s → p' ≡ p → AddsEnd (Err why) x max e e' net net' reg reg' → RunStands seen start s e.links p net false
     → RunStands seen start s' e'.links p' net' (is_dry_at s')
-refuses_on seen start net net' reg reg' s s' e e' p p' x why same_s same_p failed run =
-    run_at seen start net' s' e'.links p' false (subst (λ (v : SingleView). RunStands seen start v e'.links p' net' false) (sym same_s) (subst (λ (q : Player). RunStands seen start s e'.links q net' false) (sym same_p) (refuses seen start net net' reg reg' s e e' p x why failed run)))
+refuses_on seen start net net' reg reg' s s' e e' p p' x max why same_s same_p failed run =
+    run_at seen start net' s' e'.links p' false (subst (λ (v : SingleView). RunStands seen start v e'.links p' net' false) (sym same_s) (subst (λ (q : Player). RunStands seen start s e'.links q net' false) (sym same_p) (refuses seen start net net' reg reg' s e e' p x max why failed run)))
 
 -- why an end was refused: the net failed to listen, or the name is listened on
 pub record IsRefused (why : EndError) (x : End) (net net' : NetView) (reg : Registry) : Type 0 where
@@ -446,11 +446,11 @@ memory_fault e = cc
 in_use_fault : errors.InUse ≡ errors.Fault → ⊥
 in_use_fault e = cc
 
-why_link : {L : Type 0} (net net' : NetView) (reg : Registry) (e e' : LinkEndsView L) (addr : Addr) (x : End) (why : EndError) → ListensLink (Err why) addr e e' net net' → IsRefused why x net net' reg
-why_link net net' reg e e' addr x errors.Fault (same, f) =
+why_link : {L : Type 0} (net net' : NetView) (reg : Registry) (e e' : LinkEndsView L) (addr : Addr) (max : ℕ) (x : End) (why : EndError) → ListensLink (Err why) addr max e e' net net' → IsRefused why x net net' reg
+why_link net net' reg e e' addr max x errors.Fault (same, f) =
     record { opened = f.untouched.opened; faults = f.later; fault = λ is. f.fault; in_use = λ is. absurd (fault_in_use is) }
-why_link net net' reg e e' addr x errors.InUse none = elim none [ ]
-why_link net net' reg e e' addr x errors.NoMemory (same, is) =
+why_link net net' reg e e' addr max x errors.InUse none = elim none [ ]
+why_link net net' reg e e' addr max x errors.NoMemory (same, is) =
     let m = same_net net net' is in
     record { opened = m.0; faults = m.1; fault = λ is. absurd (memory_fault is); in_use = λ is. absurd (memory_in_use is) }
 
@@ -468,32 +468,32 @@ why_memory net net' reg x is =
     let m = same_net net net' is in
     record { opened = m.0; faults = m.1; fault = λ is. absurd (memory_fault is); in_use = λ is. absurd (memory_in_use is) }
 
-why_dial : {L : Type 0} (net net' : NetView) (reg : Registry) (e e' : LinkEndsView L) (addr : Addr) (x : End) (why : EndError) → DialsLink (Err why) addr e e' → net' ≡ net → IsRefused why x net net' reg
-why_dial net net' reg e e' addr x errors.Fault none is = elim none [ ]
-why_dial net net' reg e e' addr x errors.InUse none is = elim none [ ]
-why_dial net net' reg e e' addr x errors.NoMemory same is = why_memory net net' reg x is
+why_dial : {L : Type 0} (net net' : NetView) (reg : Registry) (e e' : LinkEndsView L) (addr : Addr) (max : ℕ) (x : End) (why : EndError) → DialsLink (Err why) addr max e e' → net' ≡ net → IsRefused why x net net' reg
+why_dial net net' reg e e' addr max x errors.Fault none is = elim none [ ]
+why_dial net net' reg e e' addr max x errors.InUse none is = elim none [ ]
+why_dial net net' reg e e' addr max x errors.NoMemory same is = why_memory net net' reg x is
 
 why_call : (net net' : NetView) (reg : Registry) (old new : NamesView) (name : List ℕ) (x : End) (why : EndError) → DialsName (Err why) name old new → net' ≡ net → IsRefused why x net net' reg
 why_call net net' reg old new name x errors.Fault none is = elim none [ ]
 why_call net net' reg old new name x errors.InUse none is = elim none [ ]
 why_call net net' reg old new name x errors.NoMemory same is = why_memory net net' reg x is
 
-pub refused : {L : Type 0} (net net' : NetView) (reg reg' : Registry) (e e' : EndsView L) (x : End) (why : EndError) → AddsEnd (Err why) x e e' net net' reg reg' → IsRefused why x net net' reg
-refused net net' reg reg' e e' (ends.Listen (addrs.Tcp host port)) why (link, kept, same) =
-    why_link net net' reg e.links e'.links (addrs.Tcp host port) (ends.Listen (addrs.Tcp host port)) why link
-refused net net' reg reg' e e' (ends.Listen (addrs.Ws host port path)) why (link, kept, same) =
-    why_link net net' reg e.links e'.links (addrs.Ws host port path) (ends.Listen (addrs.Ws host port path)) why link
-refused net net' reg reg' e e' (ends.Listen (addrs.Ipc path)) why (link, kept, same) =
-    why_link net net' reg e.links e'.links (addrs.Ipc path) (ends.Listen (addrs.Ipc path)) why link
-refused net net' reg reg' e e' (ends.Listen (addrs.Inproc name)) why (named, kept, same) =
+pub refused : {L : Type 0} (net net' : NetView) (reg reg' : Registry) (e e' : EndsView L) (x : End) (max : ℕ) (why : EndError) → AddsEnd (Err why) x max e e' net net' reg reg' → IsRefused why x net net' reg
+refused net net' reg reg' e e' (ends.Listen (addrs.Tcp host port)) max why (link, kept, same) =
+    why_link net net' reg e.links e'.links (addrs.Tcp host port) max (ends.Listen (addrs.Tcp host port)) why link
+refused net net' reg reg' e e' (ends.Listen (addrs.Ws host port path)) max why (link, kept, same) =
+    why_link net net' reg e.links e'.links (addrs.Ws host port path) max (ends.Listen (addrs.Ws host port path)) why link
+refused net net' reg reg' e e' (ends.Listen (addrs.Ipc path)) max why (link, kept, same) =
+    why_link net net' reg e.links e'.links (addrs.Ipc path) max (ends.Listen (addrs.Ipc path)) why link
+refused net net' reg reg' e e' (ends.Listen (addrs.Inproc name)) max why (named, kept, same) =
     why_name net net' reg reg' e.names e'.names name e.links.role why named same
-refused net net' reg reg' e e' (ends.Dial (addrs.Tcp host port)) why ((link, kept), same, same_reg) =
-    why_dial net net' reg e.links e'.links (addrs.Tcp host port) (ends.Dial (addrs.Tcp host port)) why link same
-refused net net' reg reg' e e' (ends.Dial (addrs.Ws host port path)) why ((link, kept), same, same_reg) =
-    why_dial net net' reg e.links e'.links (addrs.Ws host port path) (ends.Dial (addrs.Ws host port path)) why link same
-refused net net' reg reg' e e' (ends.Dial (addrs.Ipc path)) why ((link, kept), same, same_reg) =
-    why_dial net net' reg e.links e'.links (addrs.Ipc path) (ends.Dial (addrs.Ipc path)) why link same
-refused net net' reg reg' e e' (ends.Dial (addrs.Inproc name)) why ((named, kept), same, same_reg) =
+refused net net' reg reg' e e' (ends.Dial (addrs.Tcp host port)) max why ((link, kept), same, same_reg) =
+    why_dial net net' reg e.links e'.links (addrs.Tcp host port) max (ends.Dial (addrs.Tcp host port)) why link same
+refused net net' reg reg' e e' (ends.Dial (addrs.Ws host port path)) max why ((link, kept), same, same_reg) =
+    why_dial net net' reg e.links e'.links (addrs.Ws host port path) max (ends.Dial (addrs.Ws host port path)) why link same
+refused net net' reg reg' e e' (ends.Dial (addrs.Ipc path)) max why ((link, kept), same, same_reg) =
+    why_dial net net' reg e.links e'.links (addrs.Ipc path) max (ends.Dial (addrs.Ipc path)) why link same
+refused net net' reg reg' e e' (ends.Dial (addrs.Inproc name)) max why ((named, kept), same, same_reg) =
     why_call net net' reg e.names e'.names name (ends.Dial (addrs.Inproc name)) why named same
 
 -- ---- A name that is listened on twice
@@ -581,13 +581,13 @@ end_at P (y ∷ es) (suc i) x a l e = end_at P es i x a.1 (omega (arith, l)) e
 
 -- ---- The end of the rounds, or before the first one
 
-addrs_length : (ds : List Dialer) → length (addrs_of ds) ≡ length ds
-addrs_length [] = refl
-addrs_length (d ∷ ds) = let e = addrs_length ds in omega (arith, e)
+targets_length : (ds : List Dialer) → length (targets_of ds) ≡ length ds
+targets_length [] = refl
+targets_length (d ∷ ds) = let e = targets_length ds in omega (arith, e)
 
 -- where the addresses are the same, so is their number
-pub as_many : (ds es : List Dialer) → addrs_of ds ≡ addrs_of es → length ds ≡ length es
-as_many ds es e = sym (addrs_length ds) ∙ (ap length e ∙ addrs_length es)
+pub as_many : (ds es : List Dialer) → targets_of ds ≡ targets_of es → length ds ≡ length es
+as_many ds es e = sym (targets_length ds) ∙ (ap length e ∙ targets_length es)
 
 ends_so : (st : Status) (es : List End) (s : SingleView) (p : Player) (net net' : NetView) (pace pace' : PaceView) (out out' : SinkView) → WentOrOver st s p out out' pace' → EndsFor st es s p net net' pace pace' out out'
 ends_so status.Done es s p net net' pace pace' out out' went = went

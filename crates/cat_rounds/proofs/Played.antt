@@ -26,7 +26,7 @@ use Rattle.cat_play.specs.declared.status.Status.TheVariants as status
 use Rattle.cat_play.specs.Plans.{Play, IsPlayOf}
 use Rattle.cat_play.specs.Playing.{Plays}
 use Rattle.cat_play.specs.Running.{World, world, run_setting, ListensTwice, EndedFor, IsFinished, IsCutShort, Printed, Runs, RunsPlan}
-use Rattle.sp_ends.specs.LinkRecords.{has_dry_miss}
+use Rattle.sp_ends.specs.LinkRecords.{Records, has_dry_miss}
 use Rattle.cat_play.specs.Scripts.{texts, counted, has_reached, timed_out}
 use Rattle.cat_play.specs.Spending.{Spends, listens_of, dials_of}
 use Rattle.sp_ends.specs.Entries.{AddsNone, moves_ends}
@@ -163,16 +163,16 @@ ends_for seen status.OutFault plan s e p start between net' pace pace' out out' 
 ends_for seen status.FileFault plan s e p start between net' pace pace' out out' record_ files r = r.followed.why
 ends_for seen status.NoMemory plan s e p start between net' pace pace' out out' record_ files r = tt
 
-pub runs : {L : Type 0} (seen : L → LinkView) (st : Status) (plan : CatPlan) (s : SingleView) (e : LinkEndsView L) (p : Player) (start : Beginning) (between net' : NetView) (pace pace' : PaceView) (out out' : SinkView) (record_ : List (Turn Entry)) (files : FilesView) (dice : ℕ) → s.setting ≡ run_setting plan.role dice
+pub runs : {L : Type 0} (seen : L → LinkView) (st : Status) (plan : CatPlan) (s : SingleView) (e : LinkEndsView L) (p : Player) (start : Beginning) (between net' : NetView) (pace pace' : PaceView) (out out' : SinkView) (record_ : List (Turn Entry)) (files : FilesView) (dice : ℕ) → start.origins.limits ≡ plan.recv_max ∷ [] → s.setting ≡ run_setting plan.role dice
     → HasRun seen st plan s e p start between net' pace pace' out out' record_ → Runs (run_ways plan.role start.origins) st plan (play_of p.script) dice record_ (world start.net files pace out) (world net' files pace' out')
-runs seen st plan s e p start between net' pace pace' out out' record_ files dice is r =
+runs seen st plan s e p start between net' pace pace' out out' record_ files dice limits is r =
     record {
       legal = subst (λ (z : Setting). Legal z record_) is r.finished.legal;
       settled = subst (λ (z : Setting). Settled z record_) is r.finished.settled;
       closed = r.finished.closed;
       plays = subst (λ (z : Setting). Plays z (play_of p.script) record_) is r.finished.plays;
       printed = prints st out.text out'.text s.seen p (texts (play_of p.script) (past_of record_)) (world start.net files pace out) (world net' files pace' out') refl refl r.finished.texts_are r.printed;
-      records = (subst (λ (z : Setting). LinksLeft z start record_ net') is r.finished.left_).records r.finished.due;
+      records = subst (λ (ms : List ℕ). Records (run_ways plan.role start.origins) (run_setting plan.role dice) ms start.net.opened net'.opened net'.back record_) limits ((subst (λ (z : Setting). LinksLeft z start record_ net') is r.finished.left_).records r.finished.due);
       others = r.finished.left_.others;
       spends = spends seen st plan s e p start between net' pace pace' out out' record_ r;
       ended = subst (λ (z : Setting). EndedFor st z plan (play_of p.script) (past_of record_) (world start.net files pace out) (world net' files pace' out')) is (ends_for seen st plan s e p start between net' pace pace' out out' record_ files r);
@@ -185,10 +185,10 @@ runs seen st plan s e p start between net' pace pace' out out' record_ files dic
     }
 
 -- the same for what is left of a run
-pub runs_plan : {L : Type 0} (seen : L → LinkView) (st : Status) (plan : CatPlan) (s : SingleView) (e : LinkEndsView L) (p : Player) (start : Beginning) (between net' : NetView) (pace pace' : PaceView) (out out' : SinkView) (record_ : Option (List (Turn Entry))) (files : FilesView) (dice : ℕ) → s.setting ≡ run_setting plan.role dice → IsPlayOf plan files (play_of p.script)
+pub runs_plan : {L : Type 0} (seen : L → LinkView) (st : Status) (plan : CatPlan) (s : SingleView) (e : LinkEndsView L) (p : Player) (start : Beginning) (between net' : NetView) (pace pace' : PaceView) (out out' : SinkView) (record_ : Option (List (Turn Entry))) (files : FilesView) (dice : ℕ) → start.origins.limits ≡ plan.recv_max ∷ [] → s.setting ≡ run_setting plan.role dice → IsPlayOf plan files (play_of p.script)
     → RunStands seen start s e p between (is_dry_at s) → IsDryAt st s → Follows st plan.ends s e p start.net between pace pace' out out' → PrintsTo st out.text out'.text s.seen p → FinishesAs seen start s e p between net' record_
     → RunsPlan (run_ways plan.role start.origins) st plan dice record_ (world start.net files pace out) (world net' files pace' out')
-runs_plan seen st plan s e p start between net' pace pace' out out' None files dice is play run dry followed printed finished =
+runs_plan seen st plan s e p start between net' pace pace' out out' None files dice limits is play run dry followed printed finished =
     elim finished [ ]
-runs_plan seen st plan s e p start between net' pace pace' out out' (Some record_) files dice is play run dry followed printed finished =
-    (play_of p.script, play, runs seen st plan s e p start between net' pace pace' out out' record_ files dice is (record { run = run; dry = dry; followed = followed; printed = printed; finished = finished }))
+runs_plan seen st plan s e p start between net' pace pace' out out' (Some record_) files dice limits is play run dry followed printed finished =
+    (play_of p.script, play, runs seen st plan s e p start between net' pace pace' out out' record_ files dice limits is (record { run = run; dry = dry; followed = followed; printed = printed; finished = finished }))

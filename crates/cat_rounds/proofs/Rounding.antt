@@ -131,7 +131,7 @@ serving_play (Close totals) s = absurd s
 serving_play _ s = refl
 
 serving_ends : (e : Entry) → IsServing e → moves_ends e ≡ false
-serving_ends (Up p place name) s = absurd s
+serving_ends (Up p place limit name) s = absurd s
 serving_ends (Met place) s = absurd s
 serving_ends (NoUp place miss) s = absurd s
 serving_ends (Taken p) s = absurd s

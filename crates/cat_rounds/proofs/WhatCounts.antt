@@ -63,6 +63,7 @@ has_body roles.Pub b r last next needs = needs
 has_body roles.Req b r last next needs = needs
 has_body roles.Surveyor b r last next needs = needs
 has_body roles.Pair0 b r last next needs = flip b next
+has_body roles.Pair1 b r last next needs = flip b next
 has_body roles.Bus b r last next needs = flip b next
 has_body roles.Pull b r last next needs = cc
 has_body roles.Sub b r last next needs = cc

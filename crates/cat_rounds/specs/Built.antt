@@ -104,12 +104,12 @@ dial_addrs (ends.Dial addr ∷ es) = addr ∷ dial_addrs es
 
 -- the ends of the plan, with keys that are made from this number
 abbrev pub origins_of : CatPlan → ℕ → Origins
-origins_of plan dice = record { listens = listen_addrs plan.ends; dials = dial_addrs plan.ends; dice = dice }
+origins_of plan dice = record { listens = listen_addrs plan.ends; dials = dial_addrs plan.ends; dice = dice; limits = plan.recv_max ∷ [] }
 
--- the address of the end is among them
-abbrev pub IsEndOf : Origins → End → Type 0
-IsEndOf o (ends.Listen addr) = IsAmong addr o.listens
-IsEndOf o (ends.Dial addr) = IsAmong addr o.dials
+-- the address of the end is among them, and so is its receive limit
+abbrev pub IsEndOf : Origins → ℕ → End → Type 0
+IsEndOf o max (ends.Listen addr) = IsAmong addr o.listens × IsAmong max o.limits
+IsEndOf o max (ends.Dial addr) = IsAmong addr o.dials × IsAmong max o.limits
 
 -- ---- The beginning
 
@@ -122,10 +122,10 @@ listen_names (ends.Listen (addrs.Ipc path) ∷ es) = listen_names es
 listen_names (ends.Listen (addrs.Inproc name) ∷ es) = name ∷ listen_names es
 listen_names (ends.Dial addr ∷ es) = listen_names es
 
--- one more end
-abbrev pub AddsEnd : {L : Type 0} → Result (Unit {0}) EndError → End → EndsView L → EndsView L → NetView → NetView → Registry → Registry → Type 0
-AddsEnd result (ends.Listen addr) old new net net' reg reg' = ListensAlso result addr old new net net' reg reg'
-AddsEnd result (ends.Dial addr) old new net net' reg reg' = DialsAlso result addr old new × (net' ≡ net) × (reg' ≡ reg)
+-- one more end, with this receive limit
+abbrev pub AddsEnd : {L : Type 0} → Result (Unit {0}) EndError → End → ℕ → EndsView L → EndsView L → NetView → NetView → Registry → Registry → Type 0
+AddsEnd result (ends.Listen addr) max old new net net' reg reg' = ListensAlso result addr max old new net net' reg reg'
+AddsEnd result (ends.Dial addr) max old new net net' reg reg' = DialsAlso result addr max old new × (net' ≡ net) × (reg' ≡ reg)
 
 -- why it ended like this: the net failed to listen before the first round, or a name is listened on twice, or the
 -- rounds ended like this
@@ -151,14 +151,14 @@ pub record Follows {L : Type 0} (result : Status) (es : List End) (s : SingleVie
   pub sinks : Sinks (is_failed_run result) out out'
 
 -- an open run that may follow a plan with these ends
-abbrev pub MayFollow : {L : Type 0} → (L → LinkView) → List End → RunPartsView L → NetView → Type 0
-MayFollow seen es r net =
-    (start : Beginning) × AllByRecursion (IsEndOf start.origins) es × LinksStand seen start r.single r.ends.links net false
+abbrev pub MayFollow : {L : Type 0} → (L → LinkView) → List End → ℕ → RunPartsView L → NetView → Type 0
+MayFollow seen es max r net =
+    (start : Beginning) × AllByRecursion (IsEndOf start.origins max) es × LinksStand seen start r.single r.ends.links net false
 
 -- it has followed it
-abbrev pub FollowsOn : {L : Type 0} → (L → LinkView) → List End → RunPartsView L → RunPartsView L → NetView → NetView → Type 0
-FollowsOn seen es r r' net net' =
-    (start : Beginning) → AllByRecursion (IsEndOf start.origins) es → RunStands seen start r.single r.ends.links r.player net false → RunStands seen start r'.single r'.ends.links r'.player net' (is_dry_at r'.single)
+abbrev pub FollowsOn : {L : Type 0} → (L → LinkView) → List End → ℕ → RunPartsView L → RunPartsView L → NetView → NetView → Type 0
+FollowsOn seen es max r r' net net' =
+    (start : Beginning) → AllByRecursion (IsEndOf start.origins max) es → RunStands seen start r.single r.ends.links r.player net false → RunStands seen start r'.single r'.ends.links r'.player net' (is_dry_at r'.single)
 
 -- ---- The end
 

@@ -33,7 +33,7 @@ pub(crate) fn receives_next(role: Role, has_data: bool, is_over: bool, last: Las
         Role::Pull | Role::Sub => true,
         Role::Surveyor => !is_over,
         Role::Push | Role::Pub => false,
-        Role::Pair0 | Role::Bus => !has_data,
+        Role::Pair0 | Role::Pair1 | Role::Bus => !has_data,
         Role::Req => last == LastCollected::Sent,
         Role::Rep | Role::Respondent => !(has_data && last == LastCollected::Received),
     }
@@ -58,7 +58,7 @@ fn counts_received(role: Role, has_data: bool, is_over: bool) -> bool
     match role {
         Role::Surveyor => is_over,
         Role::Req => true,
-        Role::Pair0 | Role::Pub | Role::Sub | Role::Push => !has_data,
+        Role::Pair0 | Role::Pair1 | Role::Pub | Role::Sub | Role::Push => !has_data,
         Role::Pull | Role::Rep | Role::Respondent | Role::Bus => !has_data,
     }
 }
@@ -70,7 +70,7 @@ fn counts_sent(role: Role, has_data: bool, is_over: bool) -> bool
     match role {
         Role::Surveyor => is_over,
         Role::Req => false,
-        Role::Pair0 | Role::Pub | Role::Sub | Role::Push => has_data,
+        Role::Pair0 | Role::Pair1 | Role::Pub | Role::Sub | Role::Push => has_data,
         Role::Pull | Role::Rep | Role::Respondent | Role::Bus => has_data,
     }
 }
@@ -81,7 +81,7 @@ pub(crate) fn floods(role: Role) -> bool
 {
     match role {
         Role::Pub | Role::Surveyor | Role::Bus => true,
-        Role::Sub | Role::Push | Role::Pull | Role::Pair0 => false,
+        Role::Sub | Role::Push | Role::Pull | Role::Pair0 | Role::Pair1 => false,
         Role::Req | Role::Rep | Role::Respondent => false,
     }
 }

@@ -87,6 +87,7 @@ pub fn play<R: AllocGlobal + Wait, N: Net, Pa: Pace, S: Sink, P: Proto + Drop>(
         interval,
         recv_timeout,
         send_timeout,
+        recv_max,
         format,
     } = plan;
     let script = Script {
@@ -114,7 +115,7 @@ pub fn play<R: AllocGlobal + Wait, N: Net, Pa: Pace, S: Sink, P: Proto + Drop>(
         inproc: Inproc::new(alloc),
         still: None,
     };
-    let status = parts.follow(ends.as_slice(), net, pace, out);
+    let status = parts.follow(ends.as_slice(), recv_max, net, pace, out);
     parts.finish(net, status)
 }
 
@@ -130,21 +131,22 @@ fn body_of(data_: Data) -> Option<Bytes>
 }
 
 impl<R: Wait, P: Proto, L: Link> RunParts<'_, R, P, L> {
-    // Listens and dials as planned, adds the topics, and takes the rounds.
+    // Listens and dials as planned, with this receive limit, adds the topics, and takes the rounds.
     fn follow<N: Net<L = L>, Pa: Pace, S: Sink>(
         &mut self,
         ends: &[End],
+        max: u32,
         net: &mut N,
         pace: &mut Pa,
         out: &mut S,
     ) -> Status
-        requires stands { MayFollow L.seen ends.now self.old (N.seen net.old) }
+        requires stands { MayFollow L.seen ends.now max self.old (N.seen net.old) }
         requires fresh { self.old.single.seen ≡ [] }
         requires no_ends { (self.old.ends.links.listeners ≡ []) × (self.old.ends.links.dialers ≡ []) }
         requires no_names { self.old.inproc ≡ [] }
         requires built { AreBuilt ends.now }
         requires topics { CanSubscribe self.old.single.setting self.old.player.script.topics }
-        ensures stands { FollowsOn L.seen ends.now self.old self.new (N.seen net.old) (N.seen net.new) }
+        ensures stands { FollowsOn L.seen ends.now max self.old self.new (N.seen net.old) (N.seen net.new) }
         ensures dry { IsDryAt result self.new.single }
         ensures followed { Follows result ends.now self.new.single self.new.ends.links self.new.player (N.seen net.old) (N.seen net.new) (Pa.seen pace.old) (Pa.seen pace.new) (S.seen out.old) (S.seen out.new) }
         ensures printed { PrintsRun (PrintsTo result) (S.seen out.old) (S.seen out.new) self.old self.new }
@@ -152,7 +154,7 @@ impl<R: Wait, P: Proto, L: Link> RunParts<'_, R, P, L> {
         ensures late { IsLateBy 1 self.new.single self.new.player }
     {
         for end in ends {
-            match self.add(net, end) {
+            match self.add(net, end, max) {
                 Ok(()) => (),
                 Err(EndError::Fault) => return Status::NetFault,
                 Err(EndError::InUse) => return Status::NetFault,
@@ -162,15 +164,15 @@ impl<R: Wait, P: Proto, L: Link> RunParts<'_, R, P, L> {
         self.begin(net, pace, out)
     }
 
-    // Adds one end of the plan.
-    fn add<N: Net<L = L>>(&mut self, net: &mut N, end: &End) -> Result<(), EndError>
+    // Adds one end of the plan, with this receive limit.
+    fn add<N: Net<L = L>>(&mut self, net: &mut N, end: &End, max: u32) -> Result<(), EndError>
         requires built { IsBuiltEnd end.now }
-        ensures added { AddsEnd result end.now self.old.ends self.new.ends (N.seen net.old) (N.seen net.new) self.old.inproc self.new.inproc }
+        ensures added { AddsEnd result end.now max self.old.ends self.new.ends (N.seen net.old) (N.seen net.new) self.old.inproc self.new.inproc }
         ensures same { self.new ≡ record self.old { ends = self.new.ends; inproc = self.new.inproc } }
     {
         match end {
-            End::Listen(addr) => self.ends.listen(net, &mut self.inproc, addr),
-            End::Dial(addr) => self.ends.dial(addr),
+            End::Listen(addr) => self.ends.listen(net, &mut self.inproc, addr, max),
+            End::Dial(addr) => self.ends.dial(addr, max),
         }
     }
 

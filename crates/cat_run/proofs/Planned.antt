@@ -64,6 +64,7 @@ said n.Count value option (number, fits, is) = subst IsSaid (sym is) tt
 said n.Interval value option (number, fits, is) = subst IsSaid (sym is) tt
 said n.RecvTimeout value option (number, fits, is) = subst IsSaid (sym is) tt
 said n.SendTimeout value option (number, fits, is) = subst IsSaid (sym is) tt
+said n.RecvMax value option (number, fits, is) = subst IsSaid (sym is) tt
 
 some_is : (a b : Opt) → Some a ≡ Some b → a ≡ b
 some_is a b e = cc
@@ -83,6 +84,7 @@ flagged n.Count option is = absurd (none_is option is)
 flagged n.Interval option is = absurd (none_is option is)
 flagged n.RecvTimeout option is = absurd (none_is option is)
 flagged n.SendTimeout option is = absurd (none_is option is)
+flagged n.RecvMax option is = absurd (none_is option is)
 
 spelled : (option : Opt) (words : List (List ℕ)) → SpellsOpt option words → IsSaid option
 spelled option words (inl flag) = flagged flag.name option flag.flag
@@ -139,6 +141,7 @@ one_more d (o.Count number) g fits is = record { each_one = g.each_one; few = g.
 one_more d (o.Interval number) g fits is = record { each_one = g.each_one; few = g.few; short = g.short; takes = g.takes }
 one_more d (o.RecvTimeout number) g fits is = record { each_one = g.each_one; few = g.few; short = g.short; takes = g.takes }
 one_more d (o.SendTimeout number) g fits is = record { each_one = g.each_one; few = g.few; short = g.short; takes = g.takes }
+one_more d (o.RecvMax number) g fits is = record { each_one = g.each_one; few = g.few; short = g.short; takes = g.takes }
 one_more d (o.Format format) g fits is = record { each_one = g.each_one; few = g.few; short = g.short; takes = g.takes }
 
 all_good : (d : Draft) (options : List Opt) (words : List (List ℕ)) → IsGood d → SpellsAll options words → GoTogether d options → IsGood (together d options)
@@ -156,6 +159,7 @@ same_sub roles.Pub = refl
 same_sub roles.Req = refl
 same_sub roles.Surveyor = refl
 same_sub roles.Pair0 = refl
+same_sub roles.Pair1 = refl
 same_sub roles.Rep = refl
 same_sub roles.Respondent = refl
 same_sub roles.Bus = refl

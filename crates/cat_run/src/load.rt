@@ -20,6 +20,7 @@ pub(crate) fn load<F: Files>(plan: CatPlan, files: &mut F) -> Result<CatPlan, St
         interval,
         recv_timeout,
         send_timeout,
+        recv_max,
         format,
     } = plan;
     match content(data_, files) {
@@ -33,6 +34,7 @@ pub(crate) fn load<F: Files>(plan: CatPlan, files: &mut F) -> Result<CatPlan, St
             interval,
             recv_timeout,
             send_timeout,
+            recv_max,
             format,
         }),
     }

@@ -13,7 +13,7 @@ use Rattle.sp_history.specs.declared.entry.Entry.{Entry}
 use Rattle.sp_history.specs.declared.entry.Entry.TheVariants.{Up, Down, Frame, Out, Full, Quiet, Stall, Clear, Unkept, Taken}
 use Rattle.sp_history.specs.declared.setting.Setting.{Setting}
 use Rattle.sp_history.specs.Lists.{has, without}
-use Rattle.sp_history.specs.Past.{up, ups, untaken, outs, fulls, down_for}
+use Rattle.sp_history.specs.Past.{up, ups, untaken, outs, fulls, limit_of, down_for}
 use Rattle.sp_history.specs.Once.{AreDistinct}
 use Rattle.sp_history.specs.Legal.{Allowed, last_is_malformed}
 use Rattle.sp_history.specs.Wires.{Agrees}
@@ -157,7 +157,7 @@ down_parted before q p h u =
     let k = without-left (up before) q p u in has-more (untaken before) q p (h.2 p k.0) k.1
 
 pub numbered_next : (z : Setting) (k : ℕ) (before : List Entry) (e : Entry) → Numbered before → Allowed z k before e → Numbered (e ∷ before)
-numbered_next z k before (Up q place name) h a =
+numbered_next z k before (Up q place limit name) h a =
     let q_is : q ≡ ups before + 1 = a.itself.0 in (
       distinct-more (up before) q h.0 (h.1 q (omega (arith, q_is))).0,
       λ p l. (has-more (up before) q p (h.1 p (omega (arith, l))).0 (not_equal q p (omega (arith, q_is, l))), (h.1 p (omega (arith, l))).1),
@@ -184,7 +184,7 @@ up_untaken t p l u = (numbered t l).2 p u
 
 down_next : (z : Setting) (k : ℕ) (before : List Entry) (e : Entry) → Numbered before × AreDistinct (untaken before) → Allowed z k before e → Numbered (e ∷ before) × AreDistinct (untaken (e ∷ before))
 down_next z k before (Down q why) h a = (numbered_next z k before (Down q why) h.0 a, distinct-more (untaken before) q h.1 (h.0.2 q a.itself.0))
-down_next z k before (Up q place name) h a = (numbered_next z k before (Up q place name) h.0 a, h.1)
+down_next z k before (Up q place limit name) h a = (numbered_next z k before (Up q place limit name) h.0 a, h.1)
 down_next z k before (Taken q) h a = (numbered_next z k before (Taken q) h.0 a, distinct-without (untaken before) q h.1)
 down_next z k before _ h a = (h.0, h.1)
 
@@ -215,8 +215,12 @@ others before _ x p w i n h = absurd i
 
 others_down : (before : List Entry) (e : Entry) (x p : ℕ) → IsOf x e → (x == p) ≡ false → down_for (e ∷ before) p ≡ down_for before p
 others_down before (Down q why) x p i n = let k : (q == p) ≡ false = rw i n in rw k refl
-others_down before (Up q place name) x p i n = absurd i
+others_down before (Up q place limit name) x p i n = absurd i
 others_down before _ x p i n = refl
+
+pub limit_kept : (before : List Entry) (e : Entry) (x p : ℕ) → IsOf x e → limit_of (e ∷ before) p ≡ limit_of before p
+limit_kept before (Up q place limit name) x p i = absurd i
+limit_kept before _ x p i = refl
 
 others_last : (z : Setting) (before : List Entry) (e : Entry) (x p : ℕ) → IsOf x e → (x == p) ≡ false → last_is_malformed z (e ∷ before) p ≡ last_is_malformed z before p
 others_last z before (Frame q b) x p i n = let k : (q == p) ≡ false = rw i n in rw k refl

@@ -142,7 +142,7 @@ abbrev PipesClose : List Entry → Type 0
 PipesClose before = is_closed before ≡ true → up before ≡ []
 
 pipes_next : (z : Setting) (k : ℕ) (before : List Entry) (e : Entry) → PipesClose before → Allowed z k before e → PipesClose (e ∷ before)
-pipes_next z k before (Up p place name) h a = λ q. let r : false ≡ true = a.after_close q in cc
+pipes_next z k before (Up p place limit name) h a = λ q. let r : false ≡ true = a.after_close q in cc
 pipes_next z k before (Down p why) h a = λ q. let r : false ≡ true = a.after_close q in cc
 pipes_next z k before (Close totals) h a = λ q. a.itself.1
 pipes_next z k before _ h a = h

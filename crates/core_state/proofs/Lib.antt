@@ -7,7 +7,9 @@ pub mod Among
 pub mod OpWordSteps
 pub mod EndCauses
 pub mod ChangedWires
+pub mod Marking
 pub mod PipeSteps
+pub mod BusyTurns
 pub mod Timing
 pub mod OperationSteps
 pub mod PendingEnds

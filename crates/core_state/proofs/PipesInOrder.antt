@@ -14,7 +14,7 @@ use Rattle.sp_history.specs.Past.{up, ups}
 use Rattle.sp_history.specs.Moments.{Moment, past, Lawful}
 use Rattle.core_state.specs.declared.pipes.PipePlace.{PipePlace}
 use Rattle.core_state.specs.declared.pipes.Pipes.{Pipes}
-use Rattle.core_state.specs.Pipes.{UpPipe, ids, numbers, before_others, held, is_below, IsRising, IsPipeAt, PipesStand}
+use Rattle.core_state.specs.Pipes.{UpPipe, ids, numbers, before_others, held, up_pipe, is_below, IsRising, IsPipeAt, PipesStand}
 use Rattle.core_state.specs.PartSteps.{IsFirstAbove, NoneAbove}
 use Rattle.core_state.proofs.Lawfuls.{by_steps}
 use Rattle.core_state.proofs.ChangedWires.{Numbered, numbered_next, has_at, equal_numbers, same_number}
@@ -78,8 +78,8 @@ rising_without (x ∷ xs) q h = go (x == q) (rising_without xs q h.1)
     go false k = (λ y e. h.0 y (left_in xs q y e), k)
 
 rising_next : (z : Setting) (k : ℕ) (before : List Entry) (e : Entry) → Numbered before × IsRising (up before) → Allowed z k before e → Numbered (e ∷ before) × IsRising (up (e ∷ before))
-rising_next z k before (Up q place name) h a =
-    (numbered_next z k before (Up q place name) h.0 a, rising_more (up before) q h.1 (λ y e. low y e))
+rising_next z k before (Up q place limit name) h a =
+    (numbered_next z k before (Up q place limit name) h.0 a, rising_more (up before) q h.1 (λ y e. low y e))
   where
     low : (y : ℕ) → has (up before) y ≡ true → y < q
     low y e = go (nat_lt y q) refl
@@ -98,7 +98,7 @@ ups_rising t l = (by_steps t (λ before. Numbered before × IsRising (up before)
 
 -- no number is 0
 above_zero : (z : Setting) (k : ℕ) (before : List Entry) (e : Entry) → has (up before) 0 ≡ false → Allowed z k before e → has (up (e ∷ before)) 0 ≡ false
-above_zero z k before (Up q place name) h a = last_not (up before) q 0 h (let n = a.itself.0 in go (q == 0) refl n)
+above_zero z k before (Up q place limit name) h a = last_not (up before) q 0 h (let n = a.itself.0 in go (q == 0) refl n)
   where
     go : (b : Bool) → (q == 0) ≡ b → q ≡ ups before + 1 → (q == 0) ≡ false
     go false e n = e
@@ -123,6 +123,15 @@ last_in : (xs : List ℕ) (q : ℕ) → has (xs ++ q ∷ []) q ≡ true
 last_in [] q = ap (λ (b : Bool). b || false) (same_number q)
 last_in (x ∷ xs) q = after (x == q) (has (xs ++ q ∷ []) q) (last_in xs q)
 
+-- those before the last are below it
+pub below_last : (xs : List ℕ) (q y : ℕ) → IsRising (xs ++ q ∷ []) → has xs y ≡ true → y < q
+below_last [] q y h e = absurd cc
+below_last (x ∷ xs) q y h e = go (x == y) refl e (λ m. below_last xs q y h.1 m)
+  where
+    go : (b : Bool) → (x == y) ≡ b → (b || has xs y) ≡ true → (has xs y ≡ true → y < q) → y < q
+    go true f m rest = let less : x < q = h.0 q (last_in xs q) in let same : x ≡ y = equal_numbers x y f in omega (arith, less, same)
+    go false f m rest = rest m
+
 pub rising_push : (xs : List ℕ) (q r : ℕ) → IsRising (xs ++ q ∷ []) → q < r → IsRising ((xs ++ q ∷ []) ++ r ∷ [])
 rising_push [] q r h l = (λ y e. go y (r == y) refl e, (λ y e. absurd cc, tt))
   where
@@ -140,12 +149,12 @@ module _ {W : Type 0} where
   held_append [] ys = refl
   held_append (x ∷ xs) ys = go x.wire (held_append xs ys)
     where
-      go : (o : Option W) → held (xs ++ ys) ≡ held xs ++ held ys → before_others x.id o (held (xs ++ ys)) ≡ before_others x.id o (held xs) ++ held ys
+      go : (o : Option W) → held (xs ++ ys) ≡ held xs ++ held ys → before_others x o (held (xs ++ ys)) ≡ before_others x o (held xs) ++ held ys
       go None e = e
-      go (Some w) e = ap (λ (rest : List (UpPipe W)). record { id = x.id; wire = w } ∷ rest) e
+      go (Some w) e = ap (λ (rest : List (UpPipe W)). up_pipe x w ∷ rest) e
 
-  pub held_more : (xs : List (PipePlace W)) (p : ℕ) (w : W) → (let x : PipePlace W = record { id = p; wire = Some w } in let u : UpPipe W = record { id = p; wire = w } in held (xs ++ x ∷ []) ≡ held xs ++ u ∷ [])
-  held_more xs p w = held_append xs (record { id = p; wire = Some w } ∷ [])
+  pub held_more : (xs : List (PipePlace W)) (x : PipePlace W) (w : W) → x.wire ≡ Some w → held (xs ++ x ∷ []) ≡ held xs ++ up_pipe x w ∷ []
+  held_more xs x w e = held_append xs (x ∷ []) ∙ ap (λ (o : Option W). held xs ++ before_others x o []) e
 
   -- one that is up has a place
   pub place_for : (xs : List (PipePlace W)) (p : ℕ) → has (ids (held xs)) p ≡ true → (k : ℕ) × (k < length xs) × ((x : PipePlace W) → x ≡ get_or xs k x → (x.id ≡ p) × (is_some x.wire ≡ true))
@@ -159,7 +168,7 @@ module _ {W : Type 0} where
       here w true e f m again = (0, omega arith, λ y at. (ap (λ (z : PipePlace W). z.id) at ∙ equal_numbers x.id p f, ap (λ (z : PipePlace W). is_some z.wire) at ∙ ap is_some e))
       here w false e f m again = behind (again m)
 
-      go : (o : Option W) → x.wire ≡ o → has (ids (before_others x.id o (held xs))) p ≡ true → (has (ids (held xs)) p ≡ true → (k : ℕ) × (k < length xs) × ((y : PipePlace W) → y ≡ get_or xs k y → (y.id ≡ p) × (is_some y.wire ≡ true))) → (k : ℕ) × (k < suc (length xs)) × ((y : PipePlace W) → y ≡ get_or (x ∷ xs) k y → (y.id ≡ p) × (is_some y.wire ≡ true))
+      go : (o : Option W) → x.wire ≡ o → has (ids (before_others x o (held xs))) p ≡ true → (has (ids (held xs)) p ≡ true → (k : ℕ) × (k < length xs) × ((y : PipePlace W) → y ≡ get_or xs k y → (y.id ≡ p) × (is_some y.wire ≡ true))) → (k : ℕ) × (k < suc (length xs)) × ((y : PipePlace W) → y ≡ get_or (x ∷ xs) k y → (y.id ≡ p) × (is_some y.wire ≡ true))
       go None e m again = behind (again m)
       go (Some w) e m again = here w (x.id == p) e refl m again
 

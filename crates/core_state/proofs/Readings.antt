@@ -17,7 +17,7 @@ use Rattle.core_state.specs.declared.op_words.OpWords.{OpWords}
 use Rattle.core_state.specs.declared.op_words.Decision.{Decision}
 use Rattle.core_state.specs.declared.op_words.Decision.TheVariants as decision
 use Rattle.core_state.specs.OpWordsStand.{OpWordsStand, DecidedAs, GoneAs}
-use Rattle.core_state.specs.Reads.{ReadAs, HasReadEnd, IsEarlier}
+use Rattle.core_state.specs.Reads.{ReadAs, ReadOnce, HasReadEnd, IsEarlier, IsStale}
 use Rattle.core_state.proofs.OpWordSteps.{open_is, looked, none_decided}
 
 -- ---- Reads
@@ -50,6 +50,32 @@ grew_stale op slots v w x inside some g (inr h) = go h.1.2
 
 pub grew_pending : (op : OpName) (v w x : WordsView) → Grew op v w → x ≡ saw w (of_op op Pending 0) → Grew op v x
 grew_pending op v w x g h = (g.0 ++ of_op op Pending 0 ∷ [], each_push op g.0 (of_op op Pending 0) g.1 (refl, inr refl), saw_more v w x g.0 (of_op op Pending 0) g.2 h ∙ ap (λ (xs : List words.ShownOperation). record v { reads = xs }) (append_assoc v.reads g.0 (of_op op Pending 0 ∷ [])))
+
+-- ---- Reads of other operations
+
+-- reads of the slot that show other operations
+abbrev pub GrewStale : OpName → WordsView → WordsView → Type 0
+GrewStale op v w = (others : List words.ShownOperation) × Each (IsStale op) others × (w ≡ record v { reads = v.reads ++ others })
+
+pub stale_none : (op : OpName) (v : WordsView) → GrewStale op v v
+stale_none op v = ([], tt, ap (λ (xs : List words.ShownOperation). record v { reads = xs }) (sym (append-nil v.reads)))
+
+stale_push : (op : OpName) (es : List words.ShownOperation) (e : words.ShownOperation) → Each (IsStale op) es → IsStale op e → Each (IsStale op) (es ++ e ∷ [])
+stale_push op [] e h k = (k, tt)
+stale_push op (d ∷ es) e h k = (h.0, stale_push op es e h.1 k)
+
+pub stale_more : (op : OpName) (slots : ℕ) (v w x : WordsView) → op.slot < slots → 0 < op.generation → GrewStale op v w → CallStale w slots op x → GrewStale op v x
+stale_more op slots v w x inside some g (inl h) = absurd (omega (arith, inside, h.0))
+stale_more op slots v w x inside some g (inr h) = go h.1.2
+  where
+    go : (h.1.0.generation ≢ op.generation) ⊎ (op.generation ≡ 0) → GrewStale op v x
+    go (inl n) = (g.0 ++ h.1.0 ∷ [], stale_push op g.0 h.1.0 g.1 (h.1.1, n), saw_more v w x g.0 h.1.0 g.2 h.1.3 ∙ ap (λ (xs : List words.ShownOperation). record v { reads = xs }) (append_assoc v.reads g.0 (h.1.0 ∷ [])))
+    go (inr z) = absurd (omega (arith, some, z))
+
+pub read_once : (op : OpName) (e : words.ShownOperation) (v w x : WordsView) → GrewStale op v w → x ≡ saw w e → ReadOnce op v x
+read_once op e v w x g h = record { others = g.0; are_others = g.1; last = e; read = saw_more v w x g.0 e g.2 h }
+
+-- ---- The last read
 
 pub read_last : (op : OpName) (p : Phase) (by : ℕ) (v w x : WordsView) → Grew op v w → x ≡ saw w (of_op op p by) → ReadAs op p by v x
 read_last op p by v w x g h = record { others = g.0; are_others = g.1; read = saw_more v w x g.0 (of_op op p by) g.2 h }

@@ -3,6 +3,7 @@ use Rattle.std.proofs.Common.{◌≡◌, ap, sym, ◌∙◌, subst, List, [], �
 use Rattle.std.specs.VecDeque.{deque_capacity}
 use Rattle.std.specs.List.{All}
 use Rattle.sp_msg.specs.Views.{WireView}
+use Rattle.sp_history.specs.declared.entry.Entry.{Entry}
 use Rattle.sp_history.specs.declared.entry.Entry.TheVariants.{Taken}
 use Rattle.sp_history.specs.Lists.{without, head_of}
 use Rattle.sp_history.specs.Past.{ups, untaken}
@@ -11,7 +12,7 @@ use Rattle.sp_history.specs.Moments.{Moment, past, also, Lawful}
 use Rattle.core_state.specs.declared.pipes.DownPipe.{DownPipe}
 use Rattle.core_state.specs.declared.pipes.Pipes.{Pipes}
 use Rattle.core_state.specs.Wires.{IsDownWire}
-use Rattle.core_state.specs.Pipes.{down_ids, numbers, up_pipes, IsRising, PipesStand, TakenAs}
+use Rattle.core_state.specs.Pipes.{down_ids, numbers, up_pipes, HasLimit, IsRising, PipesStand, TakenAs}
 use Rattle.core_state.proofs.ChangedWires.{without_removed, untaken_distinct}
 
 pub without_first : (x : ℕ) (xs : List ℕ) → AreDistinct (x ∷ xs) → xs ≡ without (x ∷ xs) x
@@ -26,8 +27,8 @@ module _ {W : Type 0} (shown : W → WireView) where
       go (d ∷ ds) k u = absurd (omega (arith, k))
 
   -- the first of those that are down was this one, and places may have been taken out
-  pub taken_from : (l m : Pipes W) (t : Moment) (f : DownPipe W) (rest : List (DownPipe W)) → Lawful t → PipesStand shown l t → l.down.items ≡ f ∷ rest → m.down.items ≡ rest → up_pipes m ≡ up_pipes l → ((q : ℕ) → IsRising (numbers l.places.items ++ q ∷ []) → IsRising (numbers m.places.items ++ q ∷ [])) → m.count ≡ l.count → deque_capacity m.down ≡ deque_capacity l.down → TakenAs shown (Some f) t m
-  taken_from l m t f rest lawful h was now us ns cs room =
+  pub taken_from : (l m : Pipes W) (t : Moment) (f : DownPipe W) (rest : List (DownPipe W)) → Lawful t → PipesStand shown l t → l.down.items ≡ f ∷ rest → m.down.items ≡ rest → up_pipes m ≡ up_pipes l → ((q : ℕ) → IsRising (numbers l.places.items ++ q ∷ []) → IsRising (numbers m.places.items ++ q ∷ [])) → ((before : List Entry) → All (HasLimit before) l.places.items → All (HasLimit before) m.places.items) → m.count ≡ l.count → deque_capacity m.down ≡ deque_capacity l.down → m.busy ≡ l.busy → TakenAs shown (Some f) t m
+  taken_from l m t f rest lawful h was now us ns ls cs room bs =
       let ids_are : f.id ∷ down_ids rest ≡ untaken (past t) = ap down_ids (sym was) ∙ h.down_is in
       let apart : AreDistinct (f.id ∷ down_ids rest) = subst AreDistinct (sym ids_are) (untaken_distinct t lawful) in
       let wires : All (λ (x : DownPipe W). IsDownWire t.z (past t) x.id x.why (shown x.wire)) (f ∷ rest) = subst (All (λ (x : DownPipe W). IsDownWire t.z (past t) x.id x.why (shown x.wire))) was h.down_wires in
@@ -37,8 +38,10 @@ module _ {W : Type 0} (shown : W → WireView) where
         down_is = ap down_ids now ∙ without_first f.id (down_ids rest) apart ∙ ap (λ (xs : List ℕ). without xs f.id) ids_are;
         down_wires = rw now (λ k d n. let u = wires (suc k) d (omega (arith, n)) in record { agrees = u.agrees; why_is = u.why_is; shows = u.shows });
         in_order = ns (ups (past t) + 1) h.in_order;
+        limits = ls (past t) h.limits;
         count_is = cs ∙ h.count_is ∙ sym (ap length us);
         down_room = let few = ap length was in let fewer = ap length now in rw us (omega (arith, h.down_room, room, few, fewer));
         few = let few = ap length was in let fewer = ap length now in rw us (omega (arith, h.few, few, fewer));
+        marks = rw (us, bs) h.marks;
       } in
       (sym (ap head_of ids_are), wires 0 f (omega arith), left)

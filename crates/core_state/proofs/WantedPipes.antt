@@ -3,7 +3,7 @@ use Rattle.std.proofs.Common.{◌≡◌, refl, ap, sym, ◌∙◌, subst, List, 
 use Rattle.std.specs.Prelude.{not, ◌||◌, ◌==◌, filter, Option, IfSome}
 use Rattle.std.specs.List.{list_any}
 use Rattle.sp_base.specs.declared.role.Role.{Role}
-use Rattle.sp_base.specs.declared.role.Role.TheVariants.{Pair0, Sub, Req, Rep, Pull, Surveyor, Respondent}
+use Rattle.sp_base.specs.declared.role.Role.TheVariants.{Pair0, Pair1, Sub, Req, Rep, Pull, Surveyor, Respondent}
 use Rattle.sp_history.specs.declared.entry.Entry.{Entry}
 use Rattle.sp_history.specs.declared.entry.Entry.TheVariants.{Up, Down, Frame, Unkept}
 use Rattle.sp_history.specs.declared.entry.Why.{Why}
@@ -61,6 +61,7 @@ traced_from raw p Short = tt
 
 frame_for : (z : Setting) (r : Role) (raw : Bool) (before : List Entry) (p q : ℕ) (b : List ℕ) → (p == q) ≡ false → (is_pair r ≡ true → ⊥) → wanted (record z { role = r; raw = raw }) (Frame p b ∷ before) q ≡ wanted (record z { role = r; raw = raw }) before q
 frame_for z Pair0 raw before p q b n h = absurd (h refl)
+frame_for z Pair1 raw before p q b n h = absurd (h refl)
 frame_for z Pull raw before p q b n h = added_from p q (takes (record z { role = Pull; raw = raw }) before 0 p b) (item_of (record z { role = Pull; raw = raw }) p b) (pool (record z { role = Pull; raw = raw }) before 0) refl n
 frame_for z Rep raw before p q b n h = added_from p q (takes (record z { role = Rep; raw = raw }) before 0 p b) (item_of (record z { role = Rep; raw = raw }) p b) (pool (record z { role = Rep; raw = raw }) before 0) (traced_from raw p (back z.options.ttl b)) n
 frame_for z Respondent raw before p q b n h = added_from p q (takes (record z { role = Respondent; raw = raw }) before 0 p b) (item_of (record z { role = Respondent; raw = raw }) p b) (pool (record z { role = Respondent; raw = raw }) before 0) (traced_from raw p (back z.options.ttl b)) n
@@ -114,7 +115,7 @@ length-without (x ∷ xs) q = go (x == q) (length-without xs q)
     go false h = omega (arith, h)
 
 alone_next : (z : Setting) (k : ℕ) (before : List Entry) (e : Entry) → IsAlone z before → Allowed z k before e → IsAlone z (e ∷ before)
-alone_next z k before (Up p place name) h a = λ r. let none = a.itself.1 r in omega (arith, length-append (up before) (p ∷ []), ap length none)
+alone_next z k before (Up p place limit name) h a = λ r. let none = a.itself.1 r in omega (arith, length-append (up before) (p ∷ []), ap length none)
 alone_next z k before (Down p why) h a = λ r. let k = h r in omega (arith, length-without (up before) p, k)
 alone_next z k before _ h a = h
 

@@ -5,6 +5,7 @@ pub mod OpWordsStand
 pub mod OperationsStand
 pub mod Reads
 pub mod Wires
+pub mod Busy
 pub mod Pipes
 pub mod Tallies
 pub mod PartSteps

@@ -128,10 +128,10 @@ TakesOut r op old new =
 abbrev pub WherePipe : {W : Type 0} → (W → WireView) → Pipes W → ℕ → (Moment → ℕ → Type 0) → Type 0
 WherePipe shown l i fact = (t : Moment) (p : ℕ) → Lawful t → PipesStand shown l t → IsPipeAt l i p → fact t p
 
--- the unused wire is now that of a pipe that is up
-abbrev pub AddsPipe : {W : Type 0} → (W → WireView) → ℕ → W → Pipes W → Pipes W → Type 0
-AddsPipe shown p w old new =
-    (t : Moment) (place : ℕ) → Lawful t → PipesStand shown old t → p ≡ ups (past t) + 1 → IsUnused (shown w) → PipesStand shown new (also t (Up p place (record { numbers = numbers_of (shown w).name })))
+-- the unused wire is now that of a pipe that is up, with this receive limit
+abbrev pub AddsPipe : {W : Type 0} → (W → WireView) → ℕ → ℕ → W → Pipes W → Pipes W → Type 0
+AddsPipe shown p limit w old new =
+    (t : Moment) (place : ℕ) → Lawful t → PipesStand shown old t → p ≡ ups (past t) + 1 → IsUnused (shown w) → PipesStand shown new (also t (Up p place limit (record { numbers = numbers_of (shown w).name })))
 
 -- the message was put on the pipe at this place
 abbrev pub PutsOut : {W : Type 0} → (W → WireView) → ℕ → MessageView → Pipes W → Pipes W → Type 0
@@ -140,10 +140,11 @@ PutsOut shown i m old new =
 
 -- the pipe at this place has left it empty, and is now the last of those that are down
 pub record EmptiesPlace {W : Type 0} (i : ℕ) (why : Why) (old new : Pipes W) : Type 0 where
-  pub places : (x : PipePlaceType W) → x ≡ slice_index_or old.places.items i x → new.places.items ≡ set old.places.items i (record { id = x.id; wire = None })
+  pub places : (x : PipePlaceType W) → x ≡ slice_index_or old.places.items i x → new.places.items ≡ set old.places.items i (record x { wire = None })
   pub down : (x : PipePlaceType W) (w : W) → x ≡ slice_index_or old.places.items i x → x.wire ≡ Some w → new.down.items ≡ old.down.items ++ record { id = x.id; why = why; wire = w } ∷ []
   pub count : new.count + 1 ≡ old.count
   pub room : deque_capacity new.down ≡ deque_capacity old.down
+  pub busy : new.busy ≡ old.busy
 
 -- the place of the pipe, or none where it is not up
 abbrev pub FindsPipe : {W : Type 0} → (W → WireView) → Option ℕ → ℕ → Pipes W → Type 0
@@ -175,7 +176,7 @@ ArePassed {W = W} shown i p l =
 -- one more pipe has come up
 abbrev pub CountsUp : Tally → Tally → Type 0
 CountsUp old new =
-    (t : Moment) (p place : ℕ) (name : WireNumbers) → Tallies old t → Tallies new (also t (Up p place name))
+    (t : Moment) (p place limit : ℕ) (name : WireNumbers) → Tallies old t → Tallies new (also t (Up p place limit name))
 
 -- one more operation has begun
 abbrev pub CountsBegun : Tally → Tally → Type 0

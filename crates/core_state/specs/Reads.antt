@@ -26,6 +26,18 @@ LookReads (Some decision) op old new = Grows old new
 abbrev pub IsEarlier : OpName → word.ShownOperation → Type 0
 IsEarlier op e = (e.slot ≡ op.slot) × ((e.generation ≢ op.generation) ⊎ (is_decided e.phase ≡ false))
 
+-- a read of the slot that shows another operation
+abbrev pub IsStale : OpName → word.ShownOperation → Type 0
+IsStale op e = (e.slot ≡ op.slot) × (e.generation ≢ op.generation)
+
+-- the seat has read the word once, after reads of its slot that show other operations, and has learned nothing else: it
+-- hasn't waited for the operation's word to change
+pub record ReadOnce (op : OpName) (v w : WordsView) : Type 0 where
+  pub others : List word.ShownOperation
+  pub are_others : Each (IsStale op) others
+  pub last : word.ShownOperation
+  pub read : w ≡ record v { reads = v.reads ++ others ++ last ∷ [] }
+
 -- the seat has read this of the operation last, after reads of its slot that show no end of it, and has learned nothing
 -- else
 pub record ReadAs (op : OpName) (p : Phase) (by : ℕ) (v w : WordsView) : Type 0 where

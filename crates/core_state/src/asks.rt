@@ -30,7 +30,7 @@ pub fn has_its_one<P: Proto>(proto: &P, count: usize) -> bool
     ensures none { result ≡ false → (t : Moment) → P.ties proto.now t → IsTrue (is_pair t.z.role) → count ≡ 0 }
 {
     match proto.role() {
-        Role::Pair0 => count > 0,
+        Role::Pair0 | Role::Pair1 => count > 0,
         _ => false,
     }
 }

@@ -3,13 +3,21 @@
 //! A pipe that comes up gets a place after all others. One that goes down leaves its place empty, so that no other pipe
 //! moves. When a wire is taken while the pipes are fewer than half of the places, rounded down, the empty places are
 //! removed. So over all pipes that go down, each costs a fixed number of moves and the search of its place.
-ghost use Rattle.std.specs.Prelude.{◌≡◌, ◌==◌, ◌<◌, ◌≤◌, ◌+◌, ◌++◌, ◌∷◌, ℕ, [], true, false, length, is_some, OnOk};
+//!
+//! Pipes that are busy are on a list of their own: those that brought a frame, got a message to send, or had something
+//! left to write, since they last had nothing left to write. A mark at the place says whether the pipe is busy and
+//! whether it is on the list. One that is no longer busy stays on the list until its turn comes there, and so does one
+//! that is down; all memory for the list is taken when a pipe comes up.
+ghost use Rattle.std.specs.Prelude.{◌≡◌, ◌==◌, ◌<◌, ◌≤◌, ◌+◌, ◌++◌, ◌∷◌, ℕ, List, [], true, false, Some, length, is_some, OnOk};
 ghost use Rattle.std.specs.VecDeque.{deque_capacity};
 ghost use Rattle.sp_history.specs.declared.entry.Entry.TheVariants.{Down};
 ghost use Rattle.sp_history.specs.declared.entry.Why.TheVariants as whys;
+ghost use Rattle.std.specs.List.{All};
+ghost use Rattle.sp_history.specs.declared.entry.Entry.{Entry};
 ghost use Rattle.sp_history.specs.Past.{up};
+ghost use Rattle.sp_history.specs.Frames.{is_above, is_too_long};
 ghost use Rattle.sp_history.specs.Moments.{Moment, Lawful, past, also};
-ghost use Rattle.core_state.specs.Pipes.{PipesStand, IsPipeAt, HasPlace, is_below, up_pipes, numbers, IsRising, IsReadyAt, AskedAs, FlushedTo, TakenAs, HasRoom, PulledTo};
+ghost use Rattle.core_state.specs.Pipes.{PipesStand, IsPipeAt, HasPlace, HasLimit, is_below, up_pipes, numbers, IsRising, IsReadyAt, AskedAs, FlushedTo, TakenAs, HasRoom, PulledTo, KeepsListed, HasRoomOn, MarksPlace, UnmarksPlace, NextBusy};
 ghost use Rattle.core_state.specs.PartSteps.{AddsPipe, PutsOut, EmptiesPlace, FindsPipe, FindsAbove, ArePassed, WherePipe};
 
 use sp_base::{NoMemory, PipeId};
@@ -24,8 +32,14 @@ use std::sync::Wait;
 pub struct PipePlace<W> {
     /// The number of the pipe.
     pub id: PipeId,
+    /// The receive limit of the pipe, in bytes. 2^32 - 1 is none.
+    pub limit: u32,
     /// The wire that carries its messages.
     pub wire: Option<W>,
+    /// Whether it is busy.
+    pub busy: bool,
+    /// Whether the list of busy pipes has it.
+    pub listed: bool,
 }
 
 /// A pipe that is down and whose wire was not taken (nng_pipe_close(3)).
@@ -48,6 +62,8 @@ pub struct Pipes<W> {
     pub count: usize,
     /// In the order in which they went down, with room for all that are up. The first is taken first.
     pub down: VecDeque<DownPipe<W>>,
+    /// The numbers of pipes that are busy, and of some that are not, or are down; with room for all that are up.
+    pub busy: VecDeque<PipeId>,
 }
 
 /// The result of asking a pipe for room.
@@ -81,6 +97,13 @@ pub enum Pulled {
     Quiet,
     /// The pipe went down.
     Down(Why),
+}
+
+// Returns whether the bytes are more than the receive limit allows.
+fn is_above(limit: u32, b: &[u8]) -> bool
+    ensures { result ≡ is_above (Some limit) b.now }
+{
+    (limit as usize) < b.len() && limit != u32::MAX
 }
 
 impl<W> PipePlace<W> {
@@ -119,6 +142,7 @@ impl<W: Wire> Pipes<W> {
             places: VecDeque::new(alloc),
             count: 0,
             down: VecDeque::new(alloc),
+            busy: VecDeque::new(alloc),
         }
     }
 
@@ -206,19 +230,82 @@ impl<W: Wire> Pipes<W> {
             unreachable!()
         };
         wire.put(rt, m);
+        self.mark(i);
+    }
+
+    // Marks the pipe at this place as busy, and puts it on the list, if it isn't there.
+    fn mark(&mut self, i: usize)
+        requires there { i < length self.old.places.items }
+        requires room { HasRoomOn i self.old }
+        ensures { MarksPlace i self.old self.new }
+    {
+        let place = &mut self.places[i];
+        place.busy = true;
+        if place.listed {
+            return;
+        }
+        place.listed = true;
+        let id = place.id;
+        self.busy.push_back_reserved(id);
+    }
+
+    // Marks the pipe at this place as not busy. It leaves the list when its turn comes there.
+    fn unmark(&mut self, i: usize)
+        requires { i < length self.old.places.items }
+        ensures { UnmarksPlace i self.old self.new }
+    {
+        self.places[i].busy = false;
+    }
+
+    /// Takes the first pipe of the list of busy ones, which isn't empty. Returns its place and its number, where it is
+    /// up and busy, and puts it at the end of the list; one that isn't leaves the list.
+    pub fn next_busy(&mut self) -> Option<(usize, PipeId)>
+        requires { 0 < length self.old.busy.items }
+        ensures { NextBusy W.shown result self.old self.new }
+    {
+        let p = self.busy[0];
+        let found = self.place_of(p);
+        let _ = self.busy.pop_front();
+        let Some(i) = found else {
+            return None;
+        };
+        if !self.places[i].busy {
+            self.places[i].listed = false;
+            return None;
+        }
+        self.busy.push_back_reserved(p);
+        Some((i, p))
+    }
+
+    /// How much the wire of the pipe at this place has passed on, in a unit of its own; 0 where no pipe is there.
+    pub fn taken_at(&self, i: usize) -> u64 {
+        let Some(place) = self.places.get(i) else {
+            return 0;
+        };
+        match &place.wire {
+            None => 0,
+            Some(wire) => wire.taken(),
+        }
     }
 
     /// Writes what the pipe at this place can of what waits. It goes down where its wire fails.
     pub fn flush<R: Wait>(&mut self, rt: &R, i: usize) -> Flushed
         requires { (t : Moment) × (p : ℕ) × Lawful t × PipesStand W.shown self.old t × IsPipeAt self.old i p }
-        ensures { WherePipe W.shown self.old i (λ t p. FlushedTo W.shown result i p t self.new) }
+        ensures flushed { WherePipe W.shown self.old i (λ t p. FlushedTo W.shown result i p t self.new) }
+        ensures listed { WherePipe W.shown self.old i (λ t p. KeepsListed p self.old self.new) }
     {
         let Some(wire) = &mut self.places[i].wire else {
             unreachable!()
         };
         match wire.flush(rt) {
-            WireFlush::Empty => Flushed::Clear,
-            WireFlush::NotYet => Flushed::Stall,
+            WireFlush::Empty => {
+                self.unmark(i);
+                Flushed::Clear
+            }
+            WireFlush::NotYet => {
+                self.mark(i);
+                Flushed::Stall
+            }
             WireFlush::Failed => {
                 self.take_down(i, Why::Failed);
                 Flushed::Down(Why::Failed)
@@ -256,13 +343,17 @@ impl<W: Wire> Pipes<W> {
     /// Pulls from the pipe at this place. It goes down where its wire has ended or fails.
     pub fn pull<R: Wait>(&mut self, rt: &R, i: usize) -> Pulled
         requires { (t : Moment) × (p : ℕ) × Lawful t × PipesStand W.shown self.old t × IsPipeAt self.old i p }
-        ensures { WherePipe W.shown self.old i (λ t p. PulledTo W.shown result i p t self.new) }
+        ensures pulled { WherePipe W.shown self.old i (λ t p. PulledTo W.shown result i p t self.new) }
+        ensures listed { WherePipe W.shown self.old i (λ t p. KeepsListed p self.old self.new) }
     {
         let Some(wire) = &mut self.places[i].wire else {
             unreachable!()
         };
         let why = match wire.pull(rt) {
-            WireIn::Message(m) => return Pulled::Frame(m),
+            WireIn::Message(m) => {
+                self.mark(i);
+                return Pulled::Frame(m);
+            }
             WireIn::NotYet => return Pulled::Quiet,
             WireIn::Ended => Why::Ended,
             WireIn::Malformed => Why::Malformed,
@@ -272,6 +363,14 @@ impl<W: Wire> Pipes<W> {
         };
         self.take_down(i, why);
         Pulled::Down(why)
+    }
+
+    /// Returns whether the message, which came from the pipe at this place, is longer than the pipe's receive limit.
+    pub fn is_too_long(&self, i: usize, m: &Message) -> bool
+        requires { (t : Moment) × (p : ℕ) × PipesStand W.shown self.now t × IsPipeAt self.now i p }
+        ensures { WherePipe W.shown self.now i (λ t p. result ≡ is_too_long (past t) p m.now.body) }
+    {
+        is_above(self.places[i].limit, m.body())
     }
 
     /// Takes the first of those that are down.
@@ -293,8 +392,10 @@ impl<W: Wire> Pipes<W> {
     fn pack(&mut self)
         ensures up { up_pipes self.new ≡ up_pipes self.old }
         ensures in_order { (q : ℕ) → IsRising (numbers self.old.places.items ++ q ∷ []) → IsRising (numbers self.new.places.items ++ q ∷ []) }
+        ensures limits { (before : List Entry) → All (HasLimit before) self.old.places.items → All (HasLimit before) self.new.places.items }
         ensures count { self.new.count ≡ self.old.count }
         ensures down { self.new.down ≡ self.old.down }
+        ensures listed { self.new.busy ≡ self.old.busy }
     {
         if self.places.len() / 2 <= self.count {
             return;
@@ -302,13 +403,25 @@ impl<W: Wire> Pipes<W> {
         let mut left = self.places.len();
         while left > 0 {
             left -= 1;
-            let Some(PipePlace { id, wire }) = self.places.pop_front() else {
+            let Some(
+                PipePlace {
+                    id,
+                    limit,
+                    wire,
+                    busy,
+                    listed,
+                },
+            ) = self.places.pop_front()
+            else {
                 unreachable!()
             };
             if let Some(wire) = wire {
                 self.places.push_back_reserved(PipePlace {
                     id,
+                    limit,
                     wire: Some(wire),
+                    busy,
+                    listed,
                 });
             }
         }
@@ -324,17 +437,21 @@ impl<W: Wire> Pipes<W> {
     {
         self.places.reserve(1)?;
         self.down.reserve(self.count.saturating_add(1))?;
+        self.busy.reserve(self.count.saturating_add(1))?;
         Ok(())
     }
 
     /// Adds a pipe, for which there is room.
-    pub fn add(&mut self, id: PipeId, wire: W)
+    pub fn add(&mut self, id: PipeId, limit: u32, wire: W)
         requires { HasRoom self.old }
-        ensures { AddsPipe W.shown id wire self.old self.new }
+        ensures { AddsPipe W.shown id limit wire self.old self.new }
     {
         self.places.push_back_reserved(PipePlace {
             id,
+            limit,
             wire: Some(wire),
+            busy: false,
+            listed: false,
         });
         self.count += 1;
     }

@@ -5,7 +5,7 @@ ghost use Rattle.sp_history.specs.Legal.{is_uncollected};
 ghost use Rattle.sp_history.specs.Moments.{Moment, past};
 ghost use Rattle.core_state.specs.OperationsStand.{OperationsStand};
 ghost use Rattle.core_state.specs.OpWordsStand.{DecidedAs};
-ghost use Rattle.core_state.specs.Reads.{ReadSo, HasReadEnd};
+ghost use Rattle.core_state.specs.Reads.{ReadSo, ReadOnce, HasReadEnd};
 ghost use Rattle.core_state.specs.PartSteps.{HasPending, WherePending};
 
 use crate::op_words::{Decision, OpWords, gone};
@@ -16,14 +16,15 @@ use std::sync::Wait;
 use std::thread;
 
 impl OpWords {
-    // Reads the word with the caller's seat until it shows the operation, and returns whether it has ended. Where the
-    // core knows that it has, it reads until the word shows that.
+    // Reads the word with the caller's seat until it shows the operation, and returns whether it has ended. Only where
+    // the core knows that it has, it reads until the word shows that.
     fn read_end<R: Wait>(&self, rt: &R, seat: &mut CallSeat, op: OpName, known: bool) -> bool
         requires own { seat.old.words ≡ self.now.words.id }
         requires name { (op.slot < self.now.words.slots) × (0 < op.generation) }
         ensures own { IsSameSeat seat.old seat.new }
         ensures read { ReadSo result op seat.old.view seat.new.view }
         ensures known { known ≡ true → result ≡ true }
+        ensures once { known ≡ false → ReadOnce op seat.old.view seat.new.view }
     {
         for _ in rt.forever() {
             match self.words.poll(seat, op) {
@@ -41,7 +42,7 @@ impl OpWords {
     }
 
     /// Reads the operation's word with the caller's seat, and returns whether the word shows its end. It does where the
-    /// end is recorded among these operations.
+    /// end is recorded among these operations; else it doesn't wait for one.
     pub fn reads_end<R: Wait>(
         &self,
         rt: &R,
@@ -54,6 +55,7 @@ impl OpWords {
         ensures own { IsSameSeat seat.old seat.new }
         ensures read { ReadSo result op seat.old.view seat.new.view }
         ensures pending { result ≡ false → (t : Moment) → OperationsStand [] operations.now t → is_uncollected (past t) op ≡ false }
+        ensures once { (t : Moment) → OperationsStand [] operations.now t → is_uncollected (past t) op ≡ false → ReadOnce op seat.old.view seat.new.view }
     {
         let known = operations.has_ended(op);
         self.read_end(rt, seat, op, known)

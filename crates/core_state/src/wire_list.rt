@@ -48,7 +48,16 @@ impl<W> WireList<W> {
 fn end_places<W>(mut places: VecDeque<PipePlace<W>>)
     requires { held places.items ≡ [] }
 {
-    while let Some(PipePlace { id: _, wire }) = places.pop_front() {
+    while let Some(
+        PipePlace {
+            id: _,
+            limit: _,
+            wire,
+            busy: _,
+            listed: _,
+        },
+    ) = places.pop_front()
+    {
         match wire {
             None => {}
             Some(_wire) => unreachable!(),
@@ -67,6 +76,7 @@ impl<W> Pipes<W> {
             places,
             count: _,
             down,
+            busy: _,
         } = self;
         end_places(places);
         WireList { down }

@@ -6,7 +6,7 @@ use anyhow::{Context, Result, bail};
 use proto_reqrep::Reply;
 use sp_base::{Link, Net, Pace, Role};
 use sp_msg::Message;
-use sp_node::{Node, NodeEnds};
+use sp_node::{Node, NodeEnds, RECV_MAX_SIZE};
 use sp_proto::Proto;
 use sp_real::{end_side, real_side};
 use sp_socket::Options;
@@ -37,7 +37,7 @@ fn main(rt: HostRuntime) -> Result<()> {
     let Ok(mut ends) = NodeEnds::open(&rt, machine, net, pace, 0) else {
         bail!("Out of memory")
     };
-    let listened = ends.listen(&address).context(&address);
+    let listened = ends.listen(&address, RECV_MAX_SIZE).context(&address);
     let mut rep = ends.start();
     let answered = match listened {
         Ok(()) => answer(&rt, &mut rep),

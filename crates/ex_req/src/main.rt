@@ -6,7 +6,7 @@ use anyhow::{Context, Result, bail};
 use proto_reqrep::Request;
 use sp_base::{Link, Net, Pace, Role};
 use sp_msg::Message;
-use sp_node::{Node, NodeEnds};
+use sp_node::{Node, NodeEnds, RECV_MAX_SIZE};
 use sp_proto::Proto;
 use sp_real::{end_side, real_side};
 use sp_socket::Options;
@@ -39,7 +39,7 @@ fn main(rt: HostRuntime) -> Result<()> {
     let Ok(mut ends) = NodeEnds::open(&rt, machine, net, pace, 0) else {
         bail!("Out of memory")
     };
-    let dialed = ends.dial(&address).context(&address);
+    let dialed = ends.dial(&address, RECV_MAX_SIZE).context(&address);
     let mut req = ends.start();
     let asked = match dialed {
         Ok(()) => ask(&rt, &mut req),

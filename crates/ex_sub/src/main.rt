@@ -5,7 +5,7 @@
 use anyhow::{Context, Result, bail};
 use proto_pubsub::Subscribe;
 use sp_base::{Ctx, Link, Net, Pace, Role};
-use sp_node::{Node, NodeEnds, WaitError};
+use sp_node::{Node, NodeEnds, RECV_MAX_SIZE, WaitError};
 use sp_proto::Proto;
 use sp_real::{end_side, real_side};
 use sp_socket::Options;
@@ -37,7 +37,7 @@ fn main(rt: HostRuntime) -> Result<()> {
     let Ok(mut ends) = NodeEnds::open(&rt, machine, net, pace, 0) else {
         bail!("Out of memory")
     };
-    let dialed = ends.dial(&address).context(&address);
+    let dialed = ends.dial(&address, RECV_MAX_SIZE).context(&address);
     let mut sub = ends.start();
     let received = match dialed {
         Ok(()) => receive(&rt, &mut sub),

@@ -18,7 +18,7 @@ ghost use Rattle.history_judge_rules.specs.Faults.{Finds};
 
 use crate::judgement::Judgement;
 use history_judge_past::entries::Past;
-use history_judge_past::frames::{has_contexts, has_topics, is_pair, is_reply, is_sub, resends};
+use history_judge_past::frames::{has_contexts, has_topics, is_pair, is_sub, resends};
 use history_judge_past::lists::{has_ctx, has_pipe, is_empty};
 use history_judge_past::past::{
     caller_of, counts, ctxs, due_at, is_closed, now, one_more, opened, pend, topics, untaken, up,
@@ -31,7 +31,7 @@ use history_judge_rules::rules::{
     comes_after_close, condemned, goes_on, has_topic, is_after_frame, is_pending_on, is_recv,
     is_uncollected, is_up, may_begin, may_dry, may_end, may_finish,
 };
-use history_judge_rules::sends::{is_due_again, targets};
+use history_judge_rules::sends::{has_no_way, is_due_again, targets};
 use sp_base::{Bytes, Ctx, NoMemory, OpName, PipeId, Tick};
 use sp_history::entry::{ContextChange, Entry, Switch, Totals, Why};
 use sp_history::parts::{Begun, LiveRequest, Orphan};
@@ -347,7 +347,7 @@ fn may_come(
     ensures { IfOk result (λ f. Finds f (MayCome z k (entries_of past.now) e.now)) }
 {
     match e {
-        Entry::Up(p, _, _) => may_come_up(alloc, z, past, *p),
+        Entry::Up(p, _, _, _) => may_come_up(alloc, z, past, *p),
         Entry::Met(_) => Ok(None),
         Entry::NoUp(_, _) => Ok(None),
         Entry::Down(p, why) => may_go_down(alloc, z, past, *p, *why),
@@ -422,7 +422,7 @@ fn send_settled(
         return Ok(true);
     }
     let ts = targets(alloc, z, past, s)?;
-    Ok(are_full(fulls, &ts) && !(is_reply(z.role) && is_empty(&ts)))
+    Ok(are_full(fulls, &ts) && !has_no_way(alloc, z, past, s)?)
 }
 
 fn is_dry(past: &Past, c: Ctx) -> bool

@@ -2,12 +2,14 @@
 
 ghost use Rattle.std.specs.Prelude.{◌≡◌, IfOk, [], take, drop};
 ghost use Rattle.sp_history.specs.Backtrace.{back, behind, is_short};
-ghost use Rattle.sp_history.specs.Frames.{malformed, plain_item, traced_item, item_of};
-ghost use Rattle.sp_history.specs.Setting.{is_req, is_sub, is_pair, is_reply, is_asker, floods, has_contexts, has_topics, has_requests, resends, has_stored};
+ghost use Rattle.sp_history.specs.Hops.{hops_of};
+ghost use Rattle.sp_history.specs.Frames.{breaks_rule, is_above, malformed, plain_item, traced_item, counted_item, item_of};
+ghost use Rattle.sp_history.specs.Setting.{is_req, is_sub, is_pair, is_reply, is_asker, floods, has_contexts, has_topics, has_requests, resends, has_hops, has_stored};
 ghost use Rattle.history_judge_past.specs.Story.{entries_of};
 
 use crate::entries::Past;
 use crate::lists::word;
+use crate::past::limit_of;
 use sp_base::{Bytes, NoMemory, PipeId, Role};
 use sp_history::entry::RecordedMessage;
 use sp_history::parts::{Back, Item};
@@ -44,11 +46,11 @@ pub fn is_reply(role: Role) -> bool
     matches!(role, Role::Rep | Role::Respondent)
 }
 
-/// Returns whether the role is pair.
+/// Returns whether the role is pair, of either version.
 pub fn is_pair(role: Role) -> bool
     ensures { result ≡ is_pair role }
 {
-    matches!(role, Role::Pair0)
+    matches!(role, Role::Pair0 | Role::Pair1)
 }
 
 /// Returns whether a send asks for replies.
@@ -84,6 +86,13 @@ pub fn resends(z: Setting) -> bool
     ensures { result ≡ resends z }
 {
     is_req(z.role) && !z.raw
+}
+
+/// Returns whether it is a raw pair of version 1.
+pub fn has_hops(z: Setting) -> bool
+    ensures { result ≡ has_hops z }
+{
+    matches!(z.role, Role::Pair1) && z.raw
 }
 
 /// Returns whether it is a cooked rep or respondent.
@@ -142,7 +151,42 @@ fn is_short(found: &Back) -> bool
     matches!(found, Back::Short)
 }
 
-/// Returns whether a frame of the pipe that comes after this past is not a message of the protocol.
+/// The hop count of a frame of pair version 1, if it has one.
+fn hops_of(b: &[u8]) -> Option<u8>
+    ensures { result ≡ hops_of b.now }
+{
+    match b {
+        [w, x, y, hops, ..] if *w == 0 && *x == 0 && *y == 0 => Some(*hops),
+        _ => None,
+    }
+}
+
+fn breaks_rule(alloc: Global, z: Setting, b: &[u8]) -> Result<bool, NoMemory>
+    ensures { IfOk result (λ r. r ≡ breaks_rule z b.now) }
+{
+    match z.role {
+        Role::Pub => Ok(true),
+        Role::Pair1 => Ok(hops_of(b).is_none()),
+        Role::Req | Role::Surveyor => Ok(b.len() < 4),
+        Role::Rep | Role::Respondent => {
+            let found = back(alloc, z.options.ttl, b)?;
+            Ok(is_short(&found))
+        }
+        Role::Pair0 | Role::Sub | Role::Push | Role::Pull | Role::Bus => Ok(false),
+    }
+}
+
+fn is_above(limit: Option<u32>, b: &[u8]) -> bool
+    ensures { result ≡ is_above limit b.now }
+{
+    match limit {
+        None => false,
+        Some(limit) => (limit as usize) < b.len() && limit != u32::MAX,
+    }
+}
+
+/// Returns whether a frame of the pipe that comes after this past is malformed: it breaks the rule of the role, or is
+/// longer than the pipe's limit.
 pub fn malformed(
     alloc: Global,
     z: Setting,
@@ -152,18 +196,7 @@ pub fn malformed(
 ) -> Result<bool, NoMemory>
     ensures { IfOk result (λ r. r ≡ malformed z (entries_of past.now) p b.now) }
 {
-    // No rule reads them so far.
-    let _ = past;
-    let _ = p;
-    match z.role {
-        Role::Pub => Ok(true),
-        Role::Req | Role::Surveyor => Ok(b.len() < 4),
-        Role::Rep | Role::Respondent => {
-            let found = back(alloc, z.options.ttl, b)?;
-            Ok(is_short(&found))
-        }
-        Role::Pair0 | Role::Sub | Role::Push | Role::Pull | Role::Bus => Ok(false),
-    }
+    Ok(breaks_rule(alloc, z, b)? || is_above(limit_of(past, p), b))
 }
 
 /// The bytes without the first 4.
@@ -226,12 +259,36 @@ fn worded_item(alloc: Global, p: PipeId, b: &[u8]) -> Result<Item, NoMemory>
     item(alloc, p, &[], &b[..4], &b[4..])
 }
 
+fn counted_item(
+    alloc: Global,
+    raw: bool,
+    ttl: u8,
+    p: PipeId,
+    b: &[u8],
+) -> Result<Option<Item>, NoMemory>
+    ensures { IfOk result (λ i. i ≡ counted_item raw ttl p b.now (hops_of b.now)) }
+{
+    match hops_of(b) {
+        None => Ok(None),
+        Some(hops) => {
+            if ttl < hops {
+                Ok(None)
+            } else if raw {
+                Ok(Some(worded_item(alloc, p, b)?))
+            } else {
+                Ok(Some(plain_item(alloc, p, after_word(b))?))
+            }
+        }
+    }
+}
+
 /// The item that a frame of the pipe is kept as, if it is kept.
 pub fn item_of(alloc: Global, z: Setting, p: PipeId, b: &[u8]) -> Result<Option<Item>, NoMemory>
     ensures { IfOk result (λ i. i ≡ item_of z p b.now) }
 {
     match z.role {
         Role::Pair0 | Role::Pull | Role::Sub => Ok(Some(plain_item(alloc, p, b)?)),
+        Role::Pair1 => counted_item(alloc, z.raw, z.options.ttl, p, b),
         Role::Bus => {
             if z.raw {
                 Ok(Some(item(alloc, p, &[], &word(p.0), b)?))

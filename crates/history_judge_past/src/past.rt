@@ -2,7 +2,7 @@
 
 ghost use Rattle.std.specs.Prelude.{◌≡◌, IfOk, filter, map, not, ◌+◌, ◌++◌, [], ◌∷◌};
 ghost use Rattle.sp_history.specs.Lists.{same_op, same_bytes};
-ghost use Rattle.sp_history.specs.Past.{up, ups, untaken, pend, pending, ended_as, uncollected, caller_of, begins, now, timer_of, is_due, timers, is_earlier, put_in_order, by_deadline, due_at, opened, ctxs, topics, is_closed, counts, counted, without_begun, is_of};
+ghost use Rattle.sp_history.specs.Past.{up, ups, untaken, limit_of, pend, pending, ended_as, uncollected, caller_of, begins, now, timer_of, is_due, timers, is_earlier, put_in_order, by_deadline, due_at, opened, ctxs, topics, is_closed, counts, counted, without_begun, is_of};
 ghost use Rattle.history_judge_past.specs.Story.{entries_of};
 
 use crate::entries::{Past, copy_act, copy_bytes, copy_ending};
@@ -29,7 +29,7 @@ pub fn up(alloc: Global, past: &Past) -> Result<LinkedList<PipeId>, NoMemory>
 {
     match past {
         Past::Start => Ok(LinkedList::new(alloc)),
-        Past::After(Entry::Up(p, _, _), before) => {
+        Past::After(Entry::Up(p, _, _, _), before) => {
             let mut pipes = up(alloc, before)?;
             pipes.push_back(*p)?;
             Ok(pipes)
@@ -48,7 +48,7 @@ pub fn ups(past: &Past) -> Result<u64, NoMemory>
 {
     match past {
         Past::Start => Ok(0),
-        Past::After(Entry::Up(_, _, _), before) => one_more(ups(before)?),
+        Past::After(Entry::Up(_, _, _, _), before) => one_more(ups(before)?),
         Past::After(_, before) => ups(before),
     }
 }
@@ -69,6 +69,23 @@ pub fn untaken(alloc: Global, past: &Past) -> Result<LinkedList<PipeId>, NoMemor
             without_pipe(pipes, *p)
         }
         Past::After(_, before) => untaken(alloc, before),
+    }
+}
+
+/// The receive limit with which the pipe came up.
+pub fn limit_of(past: &Past, p: PipeId) -> Option<u32>
+    ensures { result ≡ limit_of (entries_of past.now) p }
+{
+    match past {
+        Past::Start => None,
+        Past::After(Entry::Up(q, _, limit, _), before) => {
+            if q.0 == p.0 {
+                Some(*limit)
+            } else {
+                limit_of(before, p)
+            }
+        }
+        Past::After(_, before) => limit_of(before, p),
     }
 }
 

@@ -108,8 +108,8 @@ fn add_for(
     match z.role {
         Role::Sub => add_discarding(z.options.prefer_new, z.options.queue, i, items),
         Role::Bus => add_discarding(false, z.options.queue, i, items),
-        Role::Pair0 | Role::Pub | Role::Req | Role::Rep | Role::Push => add_item(i, items),
-        Role::Pull | Role::Surveyor | Role::Respondent => add_item(i, items),
+        Role::Pair0 | Role::Pair1 | Role::Pub | Role::Req | Role::Rep => add_item(i, items),
+        Role::Push | Role::Pull | Role::Surveyor | Role::Respondent => add_item(i, items),
     }
 }
 
@@ -352,7 +352,7 @@ fn wanted_for(role: Role, raw: bool, p: PipeId, items: &LinkedList<Item>) -> boo
     ensures { result ≡ wanted_for role raw p items.now }
 {
     match role {
-        Role::Pair0 => is_empty(items),
+        Role::Pair0 | Role::Pair1 => is_empty(items),
         Role::Pull | Role::Rep | Role::Respondent => has_none_of(p, items),
         Role::Req | Role::Surveyor => !raw || has_none_of(p, items),
         Role::Pub | Role::Sub | Role::Push | Role::Bus => true,

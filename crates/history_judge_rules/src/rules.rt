@@ -117,7 +117,8 @@ fn recv_state(alloc: Global, z: Setting, past: &Past, c: Ctx) -> Result<bool, No
             let ss = pend(alloc, past)?;
             Ok(any_recv_on(c, &ss))
         }
-        Role::Pair0 | Role::Pub | Role::Sub | Role::Push | Role::Pull | Role::Bus => Ok(false),
+        Role::Pair0 | Role::Pair1 | Role::Pub | Role::Sub => Ok(false),
+        Role::Push | Role::Pull | Role::Bus => Ok(false),
     }
 }
 
@@ -133,7 +134,8 @@ fn send_state(
     match z.role {
         Role::Rep | Role::Respondent => Ok(stored(alloc, z, past, c)?.is_none()),
         Role::Req | Role::Surveyor => Ok(false),
-        Role::Pair0 | Role::Pub | Role::Sub | Role::Push | Role::Pull | Role::Bus => Ok(false),
+        Role::Pair0 | Role::Pair1 | Role::Pub | Role::Sub => Ok(false),
+        Role::Push | Role::Pull | Role::Bus => Ok(false),
     }
 }
 

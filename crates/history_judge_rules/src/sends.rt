@@ -6,11 +6,12 @@ ghost use Rattle.std.specs.Option.{option_map};
 ghost use Rattle.sp_history.specs.Lists.{has, same_bytes, same_op};
 ghost use Rattle.sp_history.specs.Requests.{wire_of};
 ghost use Rattle.sp_history.specs.Kept.{kept, route};
-ghost use Rattle.sp_history.specs.Sends.{is_origin, may_go, targets, traced, bytes_for, bytes_of, are_bytes, is_lost, is_due_again, is_resend, unclaimed, is_answered_by, flooded, is_flooded, begun_before, is_first_for, follows_out, goes_nowhere, is_sent};
+ghost use Rattle.sp_history.specs.Sends.{is_origin, may_go, targets, traced, bytes_for, bytes_of, are_bytes, is_lost, is_due_again, is_resend, unclaimed, is_answered_by, flooded, is_flooded, begun_before, is_first_for, follows_out, lacks_hops, has_no_way, goes_nowhere, is_sent};
+ghost use Rattle.sp_history.specs.Hops.{hop_word, next_hops};
 ghost use Rattle.history_judge_past.specs.Story.{entries_of};
 
 use history_judge_past::entries::{Past, copy_bytes};
-use history_judge_past::frames::{after_word, floods, is_reply, resends};
+use history_judge_past::frames::{after_word, floods, has_hops, is_reply, resends};
 use history_judge_past::lists::{
     all_in, first_word, has_pipe, is_empty, is_number, same_bytes, same_op,
 };
@@ -36,6 +37,16 @@ fn is_origin(o: &Option<Origin>, p: PipeId) -> bool
     }
 }
 
+/// The hop count with which a raw message that has this header goes out.
+fn next_hops(header: &[u8]) -> Option<u8>
+    ensures { result ≡ next_hops header.now }
+{
+    match header {
+        [w, x, y, hops] if *w == 0 && *x == 0 && *y == 0 && *hops < 255 => Some(*hops + 1),
+        _ => None,
+    }
+}
+
 fn may_go(z: Setting, origin: &Option<Origin>, header: &[u8], p: PipeId) -> bool
     ensures { result ≡ may_go z.role z.raw origin.now header.now p }
 {
@@ -48,6 +59,7 @@ fn may_go(z: Setting, origin: &Option<Origin>, header: &[u8], p: PipeId) -> bool
             }
         }
         Role::Bus => !z.raw || !is_number(first_word(header), p.0),
+        Role::Pair1 => !z.raw || next_hops(header).is_some(),
         Role::Pair0 | Role::Pub | Role::Sub | Role::Req => true,
         Role::Push | Role::Pull | Role::Surveyor => true,
     }
@@ -118,6 +130,21 @@ fn asked_bytes(alloc: Global, r: &Option<LiveRequest>) -> Result<Option<Bytes>, 
     }
 }
 
+fn counted_bytes(alloc: Global, hops: u8, body: &Bytes) -> Result<Bytes, NoMemory>
+    ensures { IfOk result (λ b. b ≡ hop_word hops ++ body.now) }
+{
+    joined(alloc, &[0, 0, 0, hops], body.as_slice())
+}
+
+fn raw_counted_bytes(alloc: Global, m: &RecordedMessage) -> Result<Option<Bytes>, NoMemory>
+    ensures { IfOk result (λ b. b ≡ option_map (λ n. hop_word n ++ m.now.body) (next_hops m.now.header)) }
+{
+    match next_hops(m.header.as_slice()) {
+        None => Ok(None),
+        Some(hops) => Ok(Some(counted_bytes(alloc, hops, &m.body)?)),
+    }
+}
+
 fn bytes_for(
     alloc: Global,
     z: Setting,
@@ -140,6 +167,13 @@ fn bytes_for(
                 Ok(Some(joined(alloc, after_word(m.header.as_slice()), m.body.as_slice())?))
             } else {
                 traced(alloc, origin, &m.body)
+            }
+        }
+        Role::Pair1 => {
+            if z.raw {
+                raw_counted_bytes(alloc, m)
+            } else {
+                Ok(Some(counted_bytes(alloc, 1, &m.body)?))
             }
         }
         Role::Pair0 | Role::Pub | Role::Sub | Role::Push | Role::Pull | Role::Bus => {
@@ -394,11 +428,27 @@ fn follows_out(alloc: Global, z: Setting, s: &Begun, past: &Past) -> Result<bool
     }
 }
 
+fn lacks_hops(act: &RecordedAct) -> bool
+    ensures { result ≡ lacks_hops act.now }
+{
+    match act {
+        RecordedAct::Recv => false,
+        RecordedAct::Send(m) => next_hops(m.header.as_slice()).is_none(),
+    }
+}
+
+/// Returns whether no pipe will get the send.
+pub fn has_no_way(alloc: Global, z: Setting, past: &Past, s: &Begun) -> Result<bool, NoMemory>
+    ensures { IfOk result (λ found. found ≡ has_no_way z (entries_of past.now) s.now) }
+{
+    let ts = targets(alloc, z, past, s)?;
+    Ok(is_reply(z.role) && is_empty(&ts) || has_hops(z) && lacks_hops(&s.act))
+}
+
 fn goes_nowhere(alloc: Global, z: Setting, past: &Past, s: &Begun) -> Result<bool, NoMemory>
     ensures { IfOk result (λ found. found ≡ goes_nowhere z (entries_of past.now) s.now) }
 {
-    let ts = targets(alloc, z, past, s)?;
-    if !(is_reply(z.role) && is_empty(&ts)) {
+    if !has_no_way(alloc, z, past, s)? {
         return Ok(false);
     }
     Ok(!unclaimed(alloc, z, past)?)

@@ -3,6 +3,7 @@
 //! | entry | words |
 //! |---|---|
 //! | a pipe comes up, is met, given back, goes down, is taken | `up 1`, `met 0`, `noup 0 bad`, `down 1 failed`, `taken 1` |
+//! | the receive limit of a pipe that comes up; without it there is none | `up 1 4` |
 //! | a frame, an out, and what a wire returns | `frame 1 78`, `out 1 78`, `full 1`, `quiet 1`, `stall 1`, `clear 1`, `unkept 1` |
 //! | a begin of slot 0, generation 1 | `recv 0.1`, `send 0.1 HEADER/BODY` |
 //! | the caller, the context and the deadline of a begin, after it | `k2`, `c1`, `d100` |
@@ -222,10 +223,15 @@ fn pipe_of(text: &str) -> Result<PipeId, Unread> {
     Ok(PipeId(small(text)?))
 }
 
-fn up_of(alloc: Global, text: &str) -> Result<Entry, Unread> {
+fn up_of(alloc: Global, text: &str, limit: &[&str]) -> Result<Entry, Unread> {
     let p = small(text)?;
+    let limit = match limit {
+        [] => u32::MAX,
+        [n] => small(n)?,
+        _ => return Err(Unread),
+    };
     let numbers = Bytes::from_slice(alloc, &[])?;
-    Ok(Entry::Up(PipeId(p), p, WireNumbers { numbers }))
+    Ok(Entry::Up(PipeId(p), p, limit, WireNumbers { numbers }))
 }
 
 fn tick_of(alloc: Global, t: &str, ops: &[&str]) -> Result<Entry, Unread> {
@@ -285,7 +291,7 @@ fn entry_of(alloc: Global, k: u32, words: &[&str]) -> Result<Entry, Unread> {
     let name = word(words, 0)?;
     let first = word(words, 1)?;
     match name {
-        "up" => up_of(alloc, first),
+        "up" => up_of(alloc, first, after(words, 2)),
         "recv" => begin_of(first, RecordedAct::Recv, k, after(words, 2)),
         "send" => begin_of(
             first,
@@ -347,6 +353,7 @@ pub fn turn_of(alloc: Global, line: &str) -> Result<Turn<Entry>, Unread> {
 fn role_of(text: &str) -> Result<Role, Unread> {
     match text {
         "pair0" => Ok(Role::Pair0),
+        "pair1" => Ok(Role::Pair1),
         "pub" => Ok(Role::Pub),
         "sub" => Ok(Role::Sub),
         "req" => Ok(Role::Req),

@@ -5,7 +5,7 @@ use Rattle.std.specs.Ordering.{nat_cmp, eq_by_cmp, is_eq}
 use Rattle.std.specs.Cmp.{nat_cmp_total}
 use Rattle.std.specs.declared.cmp.Ordering.TheVariants.{Less, Equal, Greater}
 use Rattle.std.proofs.lemmas.Bool.{le-ltb, eq-eqb}
-use Rattle.std.proofs.Common.{◌≡◌, eqb, refl, ap, sym, ◌∙◌, subst, List, [], ℕ, ◌+◌, ◌*◌, ◌≤◌, ◌<◌, Bool, true, false, cond, arith, Some, None}
+use Rattle.std.proofs.Common.{◌≡◌, eqb, refl, ap, sym, ◌∙◌, subst, List, [], ◌∷◌, ℕ, ◌+◌, ◌*◌, ◌≤◌, ◌<◌, Bool, true, false, cond, arith, Some, None, inl}
 use Rattle.std.proofs.lemmas.Bool.Decides.{nat_tests}
 use Rattle.sp_base.specs.SpTcp.{hello, frame, frames}
 use Rattle.sp_base.specs.Outside.{IsPrefix}
@@ -19,7 +19,7 @@ use Rattle.sp_history.specs.declared.entry.Why.TheVariants as whys
 use Rattle.sp_history.specs.Past.{past_of, down_for}
 use Rattle.cat_play.specs.Playing.{Plays}
 use Rattle.sp_links.specs.Ways.{greetings, HasOpened, BeganSo}
-use Rattle.sp_ends.specs.LinkRecords.{Records, place_of, met_at, IsBack, IsLinkOf, Carries, WentDownFor}
+use Rattle.sp_ends.specs.LinkRecords.{Records, place_of, met_at, IsBack, IsLimited, IsLinkOf, Carries, WentDownFor}
 use Rattle.cat_play.specs.Spending.{Spends, EndsInTime, late_ticks}
 use Rattle.sp_ends.specs.LinkCounts.{IsAsked, IsRead, greeting_ticks, idle_turns}
 use Rattle.play_rows.specs.Rows.{socket}
@@ -77,7 +77,7 @@ link_of = record { texts = texts; went_down = reasons }
 owes : (owed : List ℕ) → owed ≡ hello 81 → IsPrefix owed (hello 81)
 owes owed e = subst (λ (o : List ℕ). IsPrefix o (hello 81)) (sym e) ([], refl)
 
-pub stands : Records (greetings Pull) (socket Pull) 1048576 0 1 net_after.back whole_record
+pub stands : Records (greetings Pull) (socket Pull) (1048576 ∷ []) 0 1 net_after.back whole_record
 stands =
     record {
       places = refl;
@@ -87,15 +87,16 @@ stands =
       missed = (tt, (tt, (tt, (tt, (tt, (tt, (tt, (tt, (tt, (tt, (tt, (tt, (tt, (tt, (tt, (tt, (tt, tt)))))))))))))))));
       left_ = λ place h. elim (never h) [ ];
       came_up = λ p place e n b. came_up (is_zero place b) (one_pipe p place e);
+      lanes = refl;
       due = refl;
     }
   where
     never : false ≡ true → ⊥
     never h = subst (λ (b : Bool). cond b ⊥ ⊤) h tt
 
-    came_up : {p place : ℕ} → place ≡ 0 → p ≡ 1 → IsBack net_after.back place (λ link. BeganSo (greetings Pull) link (λ way. HasOpened (greetings Pull) way link) × IsLinkOf (socket Pull) 1048576 (past_of whole_record) p link)
+    came_up : {p place : ℕ} → place ≡ 0 → p ≡ 1 → IsBack net_after.back place (λ link. BeganSo (greetings Pull) link (λ way. HasOpened (greetings Pull) way link) × IsLimited (1048576 ∷ []) (past_of whole_record) p (λ max. IsLinkOf (socket Pull) max (past_of whole_record) p link))
     came_up {p} {place} e f =
-        subst (λ (q : ℕ). IsBack net_after.back q (λ link. BeganSo (greetings Pull) link (λ way. HasOpened (greetings Pull) way link) × IsLinkOf (socket Pull) 1048576 (past_of whole_record) p link)) (sym e) (subst (λ (q : ℕ). IsBack net_after.back 0 (λ link. BeganSo (greetings Pull) link (λ way. HasOpened (greetings Pull) way link) × IsLinkOf (socket Pull) 1048576 (past_of whole_record) q link)) (sym f) (whole_link, there, ((tt, refl, ((frame (codes "hello"), refl), owes)), link_of)))
+        subst (λ (q : ℕ). IsBack net_after.back q (λ link. BeganSo (greetings Pull) link (λ way. HasOpened (greetings Pull) way link) × IsLimited (1048576 ∷ []) (past_of whole_record) p (λ max. IsLinkOf (socket Pull) max (past_of whole_record) p link))) (sym e) (subst (λ (q : ℕ). IsBack net_after.back 0 (λ link. BeganSo (greetings Pull) link (λ way. HasOpened (greetings Pull) way link) × IsLimited (1048576 ∷ []) (past_of whole_record) q (λ max. IsLinkOf (socket Pull) max (past_of whole_record) q link))) (sym f) (whole_link, there, ((tt, refl, ((frame (codes "hello"), refl), owes)), (1048576, refl, inl refl, link_of))))
 
 -- ---- What the rounds were spent on
 

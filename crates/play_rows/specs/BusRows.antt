@@ -17,7 +17,7 @@ use Rattle.play_rows.specs.Rows.{socket, bare, turn, op, unnamed, gives}
 abbrev pub interval : List (Turn Entry)
 interval =
     turn (Tick 0 [] ∷ [])
-    ∷ turn (Up 1 1 unnamed ∷ [])
+    ∷ turn (Up 1 1 1048576 unnamed ∷ [])
     ∷ turn (Clear 1 ∷ Quiet 1 ∷ [])
     ∷ turn (Begin (op 0 1) 1 0 (Send (message [] (codes "m"))) None ∷ Out 1 (codes "m") ∷ End (op 0 1) (Won Sent) ∷ [])
     ∷ turn (Tick 1 [] ∷ [])
@@ -40,7 +40,7 @@ interval =
 abbrev pub receives : List (Turn Entry)
 receives =
     turn (Tick 0 [] ∷ [])
-    ∷ turn (Up 1 1 unnamed ∷ [])
+    ∷ turn (Up 1 1 1048576 unnamed ∷ [])
     ∷ turn (Clear 1 ∷ Frame 1 (codes "x") ∷ Quiet 1 ∷ [])
     ∷ turn (Begin (op 0 1) 1 0 Recv None ∷ End (op 0 1) (Won (Received (message [] (codes "x")))) ∷ [])
     ∷ turn (Tick 1 [] ∷ [])
@@ -71,7 +71,7 @@ no_pipe =
 abbrev pub too_soon : List (Turn Entry)
 too_soon =
     turn (Tick 0 [] ∷ [])
-    ∷ turn (Up 1 1 unnamed ∷ [])
+    ∷ turn (Up 1 1 1048576 unnamed ∷ [])
     ∷ turn (Clear 1 ∷ Quiet 1 ∷ [])
     ∷ turn (Begin (op 0 1) 1 0 (Send (message [] (codes "m"))) None ∷ Out 1 (codes "m") ∷ End (op 0 1) (Won Sent) ∷ [])
     ∷ turn (Tick 999 [] ∷ [])
@@ -84,7 +84,7 @@ too_soon =
 abbrev pub answers : List (Turn Entry)
 answers =
     turn (Tick 0 [] ∷ [])
-    ∷ turn (Up 1 1 unnamed ∷ [])
+    ∷ turn (Up 1 1 1048576 unnamed ∷ [])
     ∷ turn (Clear 1 ∷ Quiet 1 ∷ [])
     ∷ turn (Begin (op 0 1) 1 0 Recv None ∷ [])
     ∷ []
@@ -101,7 +101,7 @@ idles =
 abbrev pub skips_a_serve : List (Turn Entry)
 skips_a_serve =
     turn (Tick 0 [] ∷ [])
-    ∷ turn (Up 1 1 unnamed ∷ [])
+    ∷ turn (Up 1 1 1048576 unnamed ∷ [])
     ∷ turn (Clear 1 ∷ Quiet 1 ∷ [])
     ∷ turn (Begin (op 0 1) 1 0 Recv None ∷ [])
     ∷ turn (Tick 1 [] ∷ [])

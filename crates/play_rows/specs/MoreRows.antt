@@ -63,14 +63,14 @@ abbrev pub comes_in_its_turn : List (Turn Entry)
 comes_in_its_turn =
     turn (Tick 0 [] ∷ [])
     ∷ turn []
-    ∷ turn (Up 1 1 unnamed ∷ Begin (op 0 1) 1 0 (Send (message [] (codes "m"))) None ∷ Out 1 (codes "m") ∷ End (op 0 1) (Won Sent) ∷ [])
+    ∷ turn (Up 1 1 1048576 unnamed ∷ Begin (op 0 1) 1 0 (Send (message [] (codes "m"))) None ∷ Out 1 (codes "m") ∷ End (op 0 1) (Won Sent) ∷ [])
     ∷ []
 
 -- it goes down in that turn, before the send is begun
 abbrev pub goes_in_its_turn : List (Turn Entry)
 goes_in_its_turn =
     turn (Tick 0 [] ∷ [])
-    ∷ turn (Up 1 1 unnamed ∷ [])
+    ∷ turn (Up 1 1 1048576 unnamed ∷ [])
     ∷ turn (Clear 1 ∷ Quiet 1 ∷ [])
     ∷ turn (Down 1 whys.Ended ∷ Begin (op 0 1) 1 0 (Send (message [] (codes "m"))) None ∷ End (op 0 1) (Won Sent) ∷ [])
     ∷ []
@@ -86,7 +86,7 @@ many (suc n) = Frame 1 (codes "x") ∷ many n
 abbrev pub gives_many : ℕ → List (Turn Entry)
 gives_many n =
     turn (Tick 0 [] ∷ [])
-    ∷ turn (Up 1 1 unnamed ∷ [])
+    ∷ turn (Up 1 1 1048576 unnamed ∷ [])
     ∷ turn (Clear 1 ∷ many n)
     ∷ turn (Begin (op 0 1) 1 0 (Send (message [] (codes "m"))) None ∷ Out 1 (codes "m") ∷ End (op 0 1) (Won Sent) ∷ [])
     ∷ turn (Tick 1 [] ∷ [])
@@ -103,13 +103,13 @@ sends (suc n) =
 -- after them another operation is collected, and nothing is begun
 abbrev pub rests_after : ℕ → List (Turn Entry)
 rests_after n =
-    (turn (Tick 0 [] ∷ []) ∷ turn (Up 1 1 unnamed ∷ []) ∷ turn (Clear 1 ∷ Quiet 1 ∷ []) ∷ []) ++ sends n ++ turn (Took (op 16 1) 1 ∷ []) ∷ turn (Tick 1 [] ∷ []) ∷ []
+    (turn (Tick 0 [] ∷ []) ∷ turn (Up 1 1 1048576 unnamed ∷ []) ∷ turn (Clear 1 ∷ Quiet 1 ∷ []) ∷ []) ++ sends n ++ turn (Took (op 16 1) 1 ∷ []) ∷ turn (Tick 1 [] ∷ []) ∷ []
 
 -- an operation is collected other than the one that was begun
 abbrev pub collects_another : List (Turn Entry)
 collects_another =
     turn (Tick 0 [] ∷ [])
-    ∷ turn (Up 1 1 unnamed ∷ [])
+    ∷ turn (Up 1 1 1048576 unnamed ∷ [])
     ∷ turn (Clear 1 ∷ Frame 1 (codes "a") ∷ [])
     ∷ turn (Begin (op 0 1) 1 0 Recv None ∷ End (op 0 1) (Won (Received (message [] (codes "a")))) ∷ [])
     ∷ turn (Took (op 1 1) 1 ∷ [])

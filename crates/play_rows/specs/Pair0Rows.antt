@@ -17,7 +17,7 @@ use Rattle.play_rows.specs.Rows.{socket, bare, turn, op, unnamed, gives}
 abbrev pub sends : List (Turn Entry)
 sends =
     turn (Tick 0 [] ∷ [])
-    ∷ turn (Up 1 1 unnamed ∷ [])
+    ∷ turn (Up 1 1 1048576 unnamed ∷ [])
     ∷ turn (Clear 1 ∷ Frame 1 (codes "x") ∷ [])
     ∷ turn (Begin (op 0 1) 1 0 (Send (message [] (codes "a"))) None ∷ Out 1 (codes "a") ∷ End (op 0 1) (Won Sent) ∷ [])
     ∷ turn (Tick 1 [] ∷ [])
@@ -32,7 +32,7 @@ sends =
 abbrev pub receives : List (Turn Entry)
 receives =
     turn (Tick 0 [] ∷ [])
-    ∷ turn (Up 1 1 unnamed ∷ [])
+    ∷ turn (Up 1 1 1048576 unnamed ∷ [])
     ∷ turn (Clear 1 ∷ Frame 1 (codes "x") ∷ [])
     ∷ turn (Begin (op 0 1) 1 0 Recv None ∷ End (op 0 1) (Won (Received (message [] (codes "x")))) ∷ [])
     ∷ turn (Tick 1 [] ∷ [])
@@ -50,7 +50,7 @@ waits =
     ∷ turn []
     ∷ turn []
     ∷ turn (Tick 2 [] ∷ [])
-    ∷ turn (Up 1 1 unnamed ∷ Out 1 (codes "a") ∷ End (op 0 1) (Won Sent) ∷ [])
+    ∷ turn (Up 1 1 1048576 unnamed ∷ Out 1 (codes "a") ∷ End (op 0 1) (Won Sent) ∷ [])
     ∷ turn (Clear 1 ∷ Quiet 1 ∷ [])
     ∷ turn (Took (op 0 1) 1 ∷ [])
     ∷ turn (Begin (op 0 2) 1 0 (Send (message [] (codes "a"))) None ∷ Out 1 (codes "a") ∷ End (op 0 2) (Won Sent) ∷ [])

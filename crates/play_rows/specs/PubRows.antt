@@ -19,7 +19,7 @@ waits =
     turn (Tick 0 [] ∷ [])
     ∷ turn []
     ∷ turn (Tick 1 [] ∷ [])
-    ∷ turn (Up 1 1 unnamed ∷ [])
+    ∷ turn (Up 1 1 1048576 unnamed ∷ [])
     ∷ turn (Clear 1 ∷ Quiet 1 ∷ [])
     ∷ turn (Begin (op 0 1) 1 0 (Send (message [] (codes "m"))) None ∷ Out 1 (codes "m") ∷ End (op 0 1) (Won Sent) ∷ [])
     ∷ turn (Tick 2 [] ∷ [])
@@ -34,7 +34,7 @@ waits =
 abbrev pub full : List (Turn Entry)
 full =
     turn (Tick 0 [] ∷ [])
-    ∷ turn (Up 1 1 unnamed ∷ [])
+    ∷ turn (Up 1 1 1048576 unnamed ∷ [])
     ∷ turn (Clear 1 ∷ Quiet 1 ∷ [])
     ∷ turn (Begin (op 0 1) 1 0 (Send (message [] (codes "m"))) None ∷ Full 1 ∷ End (op 0 1) (Won Sent) ∷ [])
     ∷ turn (Tick 1 [] ∷ [])
@@ -46,7 +46,7 @@ full =
 abbrev pub later : List (Turn Entry)
 later =
     turn (Tick 0 [] ∷ [])
-    ∷ turn (Up 1 1 unnamed ∷ [])
+    ∷ turn (Up 1 1 1048576 unnamed ∷ [])
     ∷ turn (Clear 1 ∷ Quiet 1 ∷ [])
     ∷ turn (Begin (op 0 1) 1 0 (Send (message [] (codes "m"))) None ∷ Out 1 (codes "m") ∷ End (op 0 1) (Won Sent) ∷ [])
     ∷ turn (Tick 1 [] ∷ [])
@@ -62,7 +62,7 @@ later =
 abbrev pub falls_away : List (Turn Entry)
 falls_away =
     turn (Tick 0 [] ∷ [])
-    ∷ turn (Up 1 1 unnamed ∷ [])
+    ∷ turn (Up 1 1 1048576 unnamed ∷ [])
     ∷ turn (Clear 1 ∷ Quiet 1 ∷ [])
     ∷ turn (Down 1 whys.Failed ∷ Begin (op 0 1) 1 0 (Send (message [] (codes "m"))) None ∷ End (op 0 1) (Won Sent) ∷ [])
     ∷ turn (Tick 1 [] ∷ [])
@@ -82,7 +82,7 @@ no_pipe =
 abbrev pub idles : List (Turn Entry)
 idles =
     turn (Tick 0 [] ∷ [])
-    ∷ turn (Up 1 1 unnamed ∷ [])
+    ∷ turn (Up 1 1 1048576 unnamed ∷ [])
     ∷ turn (Clear 1 ∷ Quiet 1 ∷ [])
     ∷ turn (Tick 1 [] ∷ [])
     ∷ turn (Clear 1 ∷ Quiet 1 ∷ [])
@@ -92,7 +92,7 @@ idles =
 abbrev pub another_text : List (Turn Entry)
 another_text =
     turn (Tick 0 [] ∷ [])
-    ∷ turn (Up 1 1 unnamed ∷ [])
+    ∷ turn (Up 1 1 1048576 unnamed ∷ [])
     ∷ turn (Clear 1 ∷ Quiet 1 ∷ [])
     ∷ turn (Begin (op 0 1) 1 0 (Send (message [] (codes "mm"))) None ∷ Out 1 (codes "mm") ∷ End (op 0 1) (Won Sent) ∷ [])
     ∷ []
@@ -101,7 +101,7 @@ another_text =
 abbrev pub leaves : List (Turn Entry)
 leaves =
     turn (Tick 0 [] ∷ [])
-    ∷ turn (Up 1 1 unnamed ∷ [])
+    ∷ turn (Up 1 1 1048576 unnamed ∷ [])
     ∷ turn (Clear 1 ∷ Quiet 1 ∷ [])
     ∷ turn (Begin (op 0 1) 1 0 (Send (message [] (codes "m"))) None ∷ Out 1 (codes "m") ∷ End (op 0 1) (Won Sent) ∷ [])
     ∷ turn (Tick 1 [] ∷ [])
@@ -114,7 +114,7 @@ leaves =
 abbrev pub skips_a_serve : List (Turn Entry)
 skips_a_serve =
     turn (Tick 0 [] ∷ [])
-    ∷ turn (Up 1 1 unnamed ∷ [])
+    ∷ turn (Up 1 1 1048576 unnamed ∷ [])
     ∷ turn (Clear 1 ∷ Quiet 1 ∷ [])
     ∷ turn (Begin (op 0 1) 1 0 (Send (message [] (codes "m"))) None ∷ Out 1 (codes "m") ∷ End (op 0 1) (Won Sent) ∷ [])
     ∷ turn (Tick 1 [] ∷ [])

@@ -21,7 +21,7 @@ use Rattle.play_rows.specs.Rows.{socket, bare, turn, op, unnamed, gives}
 abbrev pub one : List (Turn Entry)
 one =
     turn (Tick 0 [] ∷ [])
-    ∷ turn (Up 1 1 unnamed ∷ [])
+    ∷ turn (Up 1 1 1048576 unnamed ∷ [])
     ∷ turn (Clear 1 ∷ Frame 1 (codes "hello") ∷ [])
     ∷ turn (Begin (op 0 1) 1 0 Recv None ∷ End (op 0 1) (Won (Received (message [] (codes "hello")))) ∷ [])
     ∷ turn (Tick 1 [] ∷ [])
@@ -43,7 +43,7 @@ waits =
     ∷ turn []
     ∷ turn []
     ∷ turn (Tick 2 [] ∷ [])
-    ∷ turn (Up 1 1 unnamed ∷ [])
+    ∷ turn (Up 1 1 1048576 unnamed ∷ [])
     ∷ turn (Clear 1 ∷ Frame 1 (codes "a") ∷ End (op 0 1) (Won (Received (message [] (codes "a")))) ∷ Quiet 1 ∷ [])
     ∷ turn (Took (op 0 1) 1 ∷ [])
     ∷ turn (Tick 3 [] ∷ [])
@@ -79,7 +79,7 @@ called_off =
 abbrev pub collected_late : List (Turn Entry)
 collected_late =
     turn (Tick 0 [] ∷ [])
-    ∷ turn (Up 1 1 unnamed ∷ [])
+    ∷ turn (Up 1 1 1048576 unnamed ∷ [])
     ∷ turn (Clear 1 ∷ Frame 1 (codes "a") ∷ [])
     ∷ turn (Begin (op 0 1) 1 0 Recv None ∷ End (op 0 1) (Won (Received (message [] (codes "a")))) ∷ [])
     ∷ turn (Clear 1 ∷ Down 1 whys.Closed ∷ Close (record { begun = 1; won = 1; gone = 0; frames = 1; outs = 0; fulls = 0 }) ∷ [])
@@ -128,7 +128,7 @@ idles =
 abbrev pub leaves : List (Turn Entry)
 leaves =
     turn (Tick 0 [] ∷ [])
-    ∷ turn (Up 1 1 unnamed ∷ [])
+    ∷ turn (Up 1 1 1048576 unnamed ∷ [])
     ∷ turn (Clear 1 ∷ Frame 1 (codes "a") ∷ [])
     ∷ turn (Begin (op 0 1) 1 0 Recv None ∷ End (op 0 1) (Won (Received (message [] (codes "a")))) ∷ [])
     ∷ turn (Tick 1 [] ∷ [])
@@ -142,7 +142,7 @@ leaves =
 abbrev pub skips_a_serve : List (Turn Entry)
 skips_a_serve =
     turn (Tick 0 [] ∷ [])
-    ∷ turn (Up 1 1 unnamed ∷ [])
+    ∷ turn (Up 1 1 1048576 unnamed ∷ [])
     ∷ turn (Clear 1 ∷ Quiet 1 ∷ [])
     ∷ turn (Begin (op 0 1) 1 0 Recv None ∷ [])
     ∷ turn (Tick 1 [] ∷ [])
@@ -164,7 +164,7 @@ two_at_once =
 abbrev pub goes_on : List (Turn Entry)
 goes_on =
     turn (Tick 0 [] ∷ [])
-    ∷ turn (Up 1 1 unnamed ∷ [])
+    ∷ turn (Up 1 1 1048576 unnamed ∷ [])
     ∷ turn (Clear 1 ∷ Frame 1 (codes "a") ∷ [])
     ∷ turn (Begin (op 0 1) 1 0 Recv None ∷ End (op 0 1) (Won (Received (message [] (codes "a")))) ∷ [])
     ∷ turn (Tick 1 [] ∷ [])
@@ -194,7 +194,7 @@ cancels =
 abbrev pub ends_there : List (Turn Entry)
 ends_there =
     turn (Tick 0 [] ∷ [])
-    ∷ turn (Up 1 1 unnamed ∷ [])
+    ∷ turn (Up 1 1 1048576 unnamed ∷ [])
     ∷ turn (Clear 1 ∷ Frame 1 (codes "a") ∷ [])
     ∷ turn (Begin (op 0 1) 1 0 Recv None ∷ End (op 0 1) (Won (Received (message [] (codes "a")))) ∷ [])
     ∷ turn (Took (op 0 1) 1 ∷ [])

@@ -18,7 +18,7 @@ use Rattle.play_rows.specs.Rows.{socket, bare, turn, op, unnamed, gives}
 abbrev pub twice : List (Turn Entry)
 twice =
     turn (Tick 0 [] ∷ [])
-    ∷ turn (Up 1 1 unnamed ∷ [])
+    ∷ turn (Up 1 1 1048576 unnamed ∷ [])
     ∷ turn (Clear 1 ∷ Quiet 1 ∷ [])
     ∷ turn (Begin (op 0 1) 1 0 (Send (message [] (codes "hi"))) None ∷ Out 1 (codes "hi") ∷ End (op 0 1) (Won Sent) ∷ [])
     ∷ turn (Tick 1 [] ∷ [])
@@ -40,7 +40,7 @@ waits =
     ∷ turn []
     ∷ turn (Begin (op 0 1) 1 0 (Send (message [] (codes "hi"))) None ∷ [])
     ∷ turn (Tick 1 [] ∷ [])
-    ∷ turn (Up 1 1 unnamed ∷ Out 1 (codes "hi") ∷ End (op 0 1) (Won Sent) ∷ [])
+    ∷ turn (Up 1 1 1048576 unnamed ∷ Out 1 (codes "hi") ∷ End (op 0 1) (Won Sent) ∷ [])
     ∷ turn (Clear 1 ∷ Quiet 1 ∷ [])
     ∷ turn (Took (op 0 1) 1 ∷ [])
     ∷ turn (Tick 2 [] ∷ [])
@@ -66,7 +66,7 @@ times_out =
 abbrev pub interval : List (Turn Entry)
 interval =
     turn (Tick 0 [] ∷ [])
-    ∷ turn (Up 1 1 unnamed ∷ [])
+    ∷ turn (Up 1 1 1048576 unnamed ∷ [])
     ∷ turn (Clear 1 ∷ Quiet 1 ∷ [])
     ∷ turn (Begin (op 0 1) 1 0 (Send (message [] (codes "h"))) None ∷ Out 1 (codes "h") ∷ End (op 0 1) (Won Sent) ∷ [])
     ∷ turn (Tick 500 [] ∷ [])
@@ -83,7 +83,7 @@ interval =
 abbrev pub another_text : List (Turn Entry)
 another_text =
     turn (Tick 0 [] ∷ [])
-    ∷ turn (Up 1 1 unnamed ∷ [])
+    ∷ turn (Up 1 1 1048576 unnamed ∷ [])
     ∷ turn (Clear 1 ∷ Quiet 1 ∷ [])
     ∷ turn (Begin (op 0 1) 1 0 (Send (message [] (codes "ih"))) None ∷ Out 1 (codes "ih") ∷ End (op 0 1) (Won Sent) ∷ [])
     ∷ []
@@ -92,7 +92,7 @@ another_text =
 abbrev pub header : List (Turn Entry)
 header =
     turn (Tick 0 [] ∷ [])
-    ∷ turn (Up 1 1 unnamed ∷ [])
+    ∷ turn (Up 1 1 1048576 unnamed ∷ [])
     ∷ turn (Clear 1 ∷ Quiet 1 ∷ [])
     ∷ turn (Begin (op 0 1) 1 0 (Send (message (0 ∷ []) (codes "hi"))) None ∷ Out 1 (codes "hi") ∷ End (op 0 1) (Won Sent) ∷ [])
     ∷ []
@@ -101,7 +101,7 @@ header =
 abbrev pub too_soon : List (Turn Entry)
 too_soon =
     turn (Tick 0 [] ∷ [])
-    ∷ turn (Up 1 1 unnamed ∷ [])
+    ∷ turn (Up 1 1 1048576 unnamed ∷ [])
     ∷ turn (Clear 1 ∷ Quiet 1 ∷ [])
     ∷ turn (Begin (op 0 1) 1 0 (Send (message [] (codes "h"))) None ∷ Out 1 (codes "h") ∷ End (op 0 1) (Won Sent) ∷ [])
     ∷ turn (Tick 999 [] ∷ [])
@@ -114,7 +114,7 @@ too_soon =
 abbrev pub too_late : List (Turn Entry)
 too_late =
     turn (Tick 0 [] ∷ [])
-    ∷ turn (Up 1 1 unnamed ∷ [])
+    ∷ turn (Up 1 1 1048576 unnamed ∷ [])
     ∷ turn (Clear 1 ∷ Quiet 1 ∷ [])
     ∷ turn (Begin (op 0 1) 1 0 (Send (message [] (codes "h"))) None ∷ Out 1 (codes "h") ∷ End (op 0 1) (Won Sent) ∷ [])
     ∷ turn (Tick 500 [] ∷ [])

@@ -18,7 +18,7 @@ use Rattle.play_rows.specs.Rows.{socket, bare, turn, op, unnamed, gives}
 abbrev pub asks : List (Turn Entry)
 asks =
     turn (Tick 0 [] ∷ [])
-    ∷ turn (Up 1 1 unnamed ∷ [])
+    ∷ turn (Up 1 1 1048576 unnamed ∷ [])
     ∷ turn (Clear 1 ∷ Quiet 1 ∷ [])
     ∷ turn (Begin (op 0 1) 1 0 (Send (message [] (codes "ping"))) None ∷ Out 1 (128 ∷ 0 ∷ 0 ∷ 0 ∷ codes "ping") ∷ End (op 0 1) (Won Sent) ∷ [])
     ∷ turn (Tick 1 [] ∷ [])
@@ -37,7 +37,7 @@ asks =
 abbrev pub asks_twice : List (Turn Entry)
 asks_twice =
     turn (Tick 0 [] ∷ [])
-    ∷ turn (Up 1 1 unnamed ∷ [])
+    ∷ turn (Up 1 1 1048576 unnamed ∷ [])
     ∷ turn (Clear 1 ∷ Quiet 1 ∷ [])
     ∷ turn (Begin (op 0 1) 1 0 (Send (message [] (codes "a"))) None ∷ Out 1 (128 ∷ 0 ∷ 0 ∷ 0 ∷ codes "a") ∷ End (op 0 1) (Won Sent) ∷ [])
     ∷ turn (Tick 1 [] ∷ [])
@@ -54,7 +54,7 @@ asks_twice =
 abbrev pub times_out : List (Turn Entry)
 times_out =
     turn (Tick 0 [] ∷ [])
-    ∷ turn (Up 1 1 unnamed ∷ [])
+    ∷ turn (Up 1 1 1048576 unnamed ∷ [])
     ∷ turn (Clear 1 ∷ Quiet 1 ∷ [])
     ∷ turn (Begin (op 0 1) 1 0 (Send (message [] (codes "a"))) None ∷ Out 1 (128 ∷ 0 ∷ 0 ∷ 0 ∷ codes "a") ∷ End (op 0 1) (Won Sent) ∷ [])
     ∷ turn (Tick 1 [] ∷ [])
@@ -73,7 +73,7 @@ times_out =
 abbrev pub asks_on : List (Turn Entry)
 asks_on =
     turn (Tick 0 [] ∷ [])
-    ∷ turn (Up 1 1 unnamed ∷ [])
+    ∷ turn (Up 1 1 1048576 unnamed ∷ [])
     ∷ turn (Clear 1 ∷ Quiet 1 ∷ [])
     ∷ turn (Begin (op 0 1) 1 0 (Send (message [] (codes "a"))) None ∷ Out 1 (128 ∷ 0 ∷ 0 ∷ 0 ∷ codes "a") ∷ End (op 0 1) (Won Sent) ∷ [])
     ∷ turn (Tick 1 [] ∷ [])
@@ -86,7 +86,7 @@ asks_on =
 abbrev pub idles : List (Turn Entry)
 idles =
     turn (Tick 0 [] ∷ [])
-    ∷ turn (Up 1 1 unnamed ∷ [])
+    ∷ turn (Up 1 1 1048576 unnamed ∷ [])
     ∷ turn (Clear 1 ∷ Quiet 1 ∷ [])
     ∷ turn (Begin (op 0 1) 1 0 (Send (message [] (codes "a"))) None ∷ Out 1 (128 ∷ 0 ∷ 0 ∷ 0 ∷ codes "a") ∷ End (op 0 1) (Won Sent) ∷ [])
     ∷ turn (Tick 1 [] ∷ [])
@@ -108,7 +108,7 @@ another_text =
 abbrev pub leaves : List (Turn Entry)
 leaves =
     turn (Tick 0 [] ∷ [])
-    ∷ turn (Up 1 1 unnamed ∷ [])
+    ∷ turn (Up 1 1 1048576 unnamed ∷ [])
     ∷ turn (Clear 1 ∷ Quiet 1 ∷ [])
     ∷ turn (Begin (op 0 1) 1 0 (Send (message [] (codes "a"))) None ∷ Out 1 (128 ∷ 0 ∷ 0 ∷ 0 ∷ codes "a") ∷ End (op 0 1) (Won Sent) ∷ [])
     ∷ turn (Tick 1 [] ∷ [])
@@ -125,7 +125,7 @@ leaves =
 abbrev pub other_deadline : List (Turn Entry)
 other_deadline =
     turn (Tick 0 [] ∷ [])
-    ∷ turn (Up 1 1 unnamed ∷ [])
+    ∷ turn (Up 1 1 1048576 unnamed ∷ [])
     ∷ turn (Clear 1 ∷ Quiet 1 ∷ [])
     ∷ turn (Begin (op 0 1) 1 0 (Send (message [] (codes "a"))) (Some 1000) ∷ Out 1 (128 ∷ 0 ∷ 0 ∷ 0 ∷ codes "a") ∷ End (op 0 1) (Won Sent) ∷ [])
     ∷ turn (Tick 1 [] ∷ [])

@@ -18,7 +18,7 @@ use Rattle.play_rows.specs.Rows.{socket, bare, turn, op, unnamed, gives}
 abbrev pub answers : List (Turn Entry)
 answers =
     turn (Tick 0 [] ∷ [])
-    ∷ turn (Up 1 1 unnamed ∷ [])
+    ∷ turn (Up 1 1 1048576 unnamed ∷ [])
     ∷ turn (Clear 1 ∷ Frame 1 (128 ∷ 0 ∷ 0 ∷ 5 ∷ codes "q") ∷ [])
     ∷ turn (Begin (op 0 1) 1 0 Recv None ∷ End (op 0 1) (Won (Received (message [] (codes "q")))) ∷ [])
     ∷ turn (Tick 1 [] ∷ [])
@@ -37,7 +37,7 @@ answers =
 abbrev pub receives : List (Turn Entry)
 receives =
     turn (Tick 0 [] ∷ [])
-    ∷ turn (Up 1 1 unnamed ∷ [])
+    ∷ turn (Up 1 1 1048576 unnamed ∷ [])
     ∷ turn (Clear 1 ∷ Frame 1 (128 ∷ 0 ∷ 0 ∷ 5 ∷ codes "q") ∷ [])
     ∷ turn (Begin (op 0 1) 1 0 Recv None ∷ End (op 0 1) (Won (Received (message [] (codes "q")))) ∷ [])
     ∷ turn (Tick 1 [] ∷ [])
@@ -49,7 +49,7 @@ receives =
 abbrev pub interval : List (Turn Entry)
 interval =
     turn (Tick 0 [] ∷ [])
-    ∷ turn (Up 1 1 unnamed ∷ [])
+    ∷ turn (Up 1 1 1048576 unnamed ∷ [])
     ∷ turn (Clear 1 ∷ Frame 1 (128 ∷ 0 ∷ 0 ∷ 5 ∷ codes "q") ∷ [])
     ∷ turn (Begin (op 0 1) 1 0 Recv None ∷ End (op 0 1) (Won (Received (message [] (codes "q")))) ∷ [])
     ∷ turn (Tick 1 [] ∷ [])
@@ -74,7 +74,7 @@ interval =
 abbrev pub no_answer : List (Turn Entry)
 no_answer =
     turn (Tick 0 [] ∷ [])
-    ∷ turn (Up 1 1 unnamed ∷ [])
+    ∷ turn (Up 1 1 1048576 unnamed ∷ [])
     ∷ turn (Clear 1 ∷ Frame 1 (128 ∷ 0 ∷ 0 ∷ 5 ∷ codes "q") ∷ [])
     ∷ turn (Begin (op 0 1) 1 0 Recv None ∷ End (op 0 1) (Won (Received (message [] (codes "q")))) ∷ [])
     ∷ turn (Tick 1 [] ∷ [])
@@ -87,7 +87,7 @@ no_answer =
 abbrev pub too_soon : List (Turn Entry)
 too_soon =
     turn (Tick 0 [] ∷ [])
-    ∷ turn (Up 1 1 unnamed ∷ [])
+    ∷ turn (Up 1 1 1048576 unnamed ∷ [])
     ∷ turn (Clear 1 ∷ Frame 1 (128 ∷ 0 ∷ 0 ∷ 5 ∷ codes "q") ∷ [])
     ∷ turn (Begin (op 0 1) 1 0 Recv None ∷ End (op 0 1) (Won (Received (message [] (codes "q")))) ∷ [])
     ∷ turn (Tick 1 [] ∷ [])
@@ -108,7 +108,7 @@ too_soon =
 abbrev pub another_reply : List (Turn Entry)
 another_reply =
     turn (Tick 0 [] ∷ [])
-    ∷ turn (Up 1 1 unnamed ∷ [])
+    ∷ turn (Up 1 1 1048576 unnamed ∷ [])
     ∷ turn (Clear 1 ∷ Frame 1 (128 ∷ 0 ∷ 0 ∷ 5 ∷ codes "q") ∷ [])
     ∷ turn (Begin (op 0 1) 1 0 Recv None ∷ End (op 0 1) (Won (Received (message [] (codes "q")))) ∷ [])
     ∷ turn (Tick 1 [] ∷ [])
@@ -121,7 +121,7 @@ another_reply =
 abbrev pub idles : List (Turn Entry)
 idles =
     turn (Tick 0 [] ∷ [])
-    ∷ turn (Up 1 1 unnamed ∷ [])
+    ∷ turn (Up 1 1 1048576 unnamed ∷ [])
     ∷ turn (Clear 1 ∷ Frame 1 (128 ∷ 0 ∷ 0 ∷ 5 ∷ codes "q") ∷ [])
     ∷ turn (Begin (op 0 1) 1 0 Recv None ∷ End (op 0 1) (Won (Received (message [] (codes "q")))) ∷ [])
     ∷ turn (Tick 1 [] ∷ [])

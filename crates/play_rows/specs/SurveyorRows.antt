@@ -18,7 +18,7 @@ use Rattle.play_rows.specs.Rows.{socket, bare, turn, op, unnamed, gives}
 abbrev pub survey : List (Turn Entry)
 survey =
     turn (Tick 0 [] ∷ [])
-    ∷ turn (Up 1 1 unnamed ∷ [])
+    ∷ turn (Up 1 1 1048576 unnamed ∷ [])
     ∷ turn (Clear 1 ∷ Quiet 1 ∷ [])
     ∷ turn (Begin (op 0 1) 1 0 (Send (message [] (codes "s"))) None ∷ Out 1 (128 ∷ 0 ∷ 0 ∷ 0 ∷ codes "s") ∷ End (op 0 1) (Won Sent) ∷ [])
     ∷ turn (Tick 1 [] ∷ [])
@@ -45,7 +45,7 @@ survey =
 abbrev pub found_over : List (Turn Entry)
 found_over =
     turn (Tick 0 [] ∷ [])
-    ∷ turn (Up 1 1 unnamed ∷ [])
+    ∷ turn (Up 1 1 1048576 unnamed ∷ [])
     ∷ turn (Clear 1 ∷ Quiet 1 ∷ [])
     ∷ turn (Begin (op 0 1) 1 0 (Send (message [] (codes "s"))) None ∷ Out 1 (128 ∷ 0 ∷ 0 ∷ 0 ∷ codes "s") ∷ End (op 0 1) (Won Sent) ∷ [])
     ∷ turn (Tick 999 [] ∷ [])
@@ -67,7 +67,7 @@ nobody =
     turn (Tick 0 [] ∷ [])
     ∷ turn []
     ∷ turn (Tick 1 [] ∷ [])
-    ∷ turn (Up 1 1 unnamed ∷ [])
+    ∷ turn (Up 1 1 1048576 unnamed ∷ [])
     ∷ turn (Clear 1 ∷ Quiet 1 ∷ [])
     ∷ turn (Begin (op 0 1) 1 0 (Send (message [] (codes "s"))) None ∷ Out 1 (128 ∷ 0 ∷ 0 ∷ 0 ∷ codes "s") ∷ End (op 0 1) (Won Sent) ∷ [])
     ∷ turn (Tick 1001 [] ∷ [])
@@ -82,7 +82,7 @@ nobody =
 abbrev pub sends_on : List (Turn Entry)
 sends_on =
     turn (Tick 0 [] ∷ [])
-    ∷ turn (Up 1 1 unnamed ∷ [])
+    ∷ turn (Up 1 1 1048576 unnamed ∷ [])
     ∷ turn (Clear 1 ∷ Quiet 1 ∷ [])
     ∷ turn (Begin (op 0 1) 1 0 (Send (message [] (codes "s"))) None ∷ Out 1 (128 ∷ 0 ∷ 0 ∷ 0 ∷ codes "s") ∷ End (op 0 1) (Won Sent) ∷ [])
     ∷ turn (Tick 1 [] ∷ [])
@@ -103,7 +103,7 @@ no_pipe =
 abbrev pub idles : List (Turn Entry)
 idles =
     turn (Tick 0 [] ∷ [])
-    ∷ turn (Up 1 1 unnamed ∷ [])
+    ∷ turn (Up 1 1 1048576 unnamed ∷ [])
     ∷ turn (Clear 1 ∷ Quiet 1 ∷ [])
     ∷ turn (Begin (op 0 1) 1 0 (Send (message [] (codes "s"))) None ∷ Out 1 (128 ∷ 0 ∷ 0 ∷ 0 ∷ codes "s") ∷ End (op 0 1) (Won Sent) ∷ [])
     ∷ turn (Tick 1000 [] ∷ [])
@@ -119,7 +119,7 @@ idles =
 abbrev pub rests : List (Turn Entry)
 rests =
     turn (Tick 0 [] ∷ [])
-    ∷ turn (Up 1 1 unnamed ∷ [])
+    ∷ turn (Up 1 1 1048576 unnamed ∷ [])
     ∷ turn (Clear 1 ∷ Quiet 1 ∷ [])
     ∷ turn (Begin (op 0 1) 1 0 (Send (message [] (codes "s"))) None ∷ Out 1 (128 ∷ 0 ∷ 0 ∷ 0 ∷ codes "s") ∷ End (op 0 1) (Won Sent) ∷ [])
     ∷ turn (Tick 1 [] ∷ [])
@@ -133,7 +133,7 @@ rests =
 abbrev pub another_text : List (Turn Entry)
 another_text =
     turn (Tick 0 [] ∷ [])
-    ∷ turn (Up 1 1 unnamed ∷ [])
+    ∷ turn (Up 1 1 1048576 unnamed ∷ [])
     ∷ turn (Clear 1 ∷ Quiet 1 ∷ [])
     ∷ turn (Begin (op 0 1) 1 0 (Send (message [] (codes "t"))) None ∷ Out 1 (128 ∷ 0 ∷ 0 ∷ 0 ∷ codes "t") ∷ End (op 0 1) (Won Sent) ∷ [])
     ∷ []
@@ -142,7 +142,7 @@ another_text =
 abbrev pub leaves : List (Turn Entry)
 leaves =
     turn (Tick 0 [] ∷ [])
-    ∷ turn (Up 1 1 unnamed ∷ [])
+    ∷ turn (Up 1 1 1048576 unnamed ∷ [])
     ∷ turn (Clear 1 ∷ Quiet 1 ∷ [])
     ∷ turn (Begin (op 0 1) 1 0 (Send (message [] (codes "s"))) None ∷ Out 1 (128 ∷ 0 ∷ 0 ∷ 0 ∷ codes "s") ∷ End (op 0 1) (Won Sent) ∷ [])
     ∷ turn (Tick 1 [] ∷ [])

@@ -30,7 +30,7 @@ abbrev pub whole_record : List (Turn Entry)
 whole_record =
     turn (Tick 0 [] ∷ [])
     ∷ turn (Met 0 ∷ [])
-    ∷ turn (Up 1 0 unnamed ∷ [])
+    ∷ turn (Up 1 0 1048576 unnamed ∷ [])
     ∷ turn (Clear 1 ∷ Frame 1 (codes "hello") ∷ [])
     ∷ turn (Begin (op 0 1) 1 0 Recv None ∷ End (op 0 1) (Won (Received (message [] (codes "hello")))) ∷ [])
     ∷ turn (Tick 1 [] ∷ [])
@@ -68,6 +68,6 @@ whole_ends = ends.Listen (addrs.Tcp (hosts.V4 127 0 0 1) 5555) ∷ []
 
 pub record WholeRows : Type 0 where
   pub plays : Plays (socket Pull) whole_play whole_record
-  pub stands : Records (greetings Pull) (socket Pull) 1048576 0 1 net_after.back whole_record
+  pub stands : Records (greetings Pull) (socket Pull) (1048576 ∷ []) 0 1 net_after.back whole_record
   pub spent : Spends whole_ends whole_record net_before net_after pace_before pace_after
   pub late : EndsInTime false (socket Pull) whole_play whole_record net_before net_after

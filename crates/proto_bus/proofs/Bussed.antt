@@ -29,7 +29,7 @@ use Rattle.sp_history.specs.Setting.{floods}
 use Rattle.sp_history.specs.Lists.{has, head_of, is_number}
 use Rattle.sp_history.specs.Past.{without_begun, pend, pending, up}
 use Rattle.sp_history.specs.Kept.{pool, kept, route, is_on_pool, takes, add_for}
-use Rattle.sp_history.specs.Frames.{malformed, item_for, item_of as of_frame}
+use Rattle.sp_history.specs.Frames.{breaks_rule, is_too_long, item_for, item_of as of_frame}
 use Rattle.sp_history.specs.Sends.{may_go, targets, bytes_of}
 use Rattle.sp_history.specs.Settled.{receive_settled, has_full}
 use Rattle.sp_history.specs.Moments.{Moment, Lawful, past, also, next}
@@ -62,17 +62,17 @@ kept_bus z before c h = rw h refl
 
 -- ---- Pipes
 
-pub up_ties : (m n : Bus) (t : Moment) (p place : ℕ) (name : WireNumbers) → NoFlood t → Lawful (also t (Up p place name)) → Ties m t → n ≡ record m { pipes = min (m.pipes + 1) (2 ^ 64 - 1) } → Ties n (also t (Up p place name))
-up_ties m n t p place name calm l h same = (
+pub up_ties : (m n : Bus) (t : Moment) (p place limit : ℕ) (name : WireNumbers) → NoFlood t → Lawful (also t (Up p place limit name)) → Ties m t → n ≡ record m { pipes = min (m.pipes + 1) (2 ^ 64 - 1) } → Ties n (also t (Up p place limit name))
+up_ties m n t p place limit name calm l h same = (
   record {
     kind = rw same h.0.kind;
-    pipes = rw same (counted_up t p place name m.pipes l h.0.pipes);
+    pipes = rw same (counted_up t p place limit name m.pipes l h.0.pipes);
     items = rw same h.0.items;
     places = rw same h.0.places;
     pending = rw same h.0.pending;
     contexts = h.0.contexts;
   },
-  no_flood _ _ (also t (Up p place name)) (calm (it_floods t.z (is_bus m t h))),
+  no_flood _ _ (also t (Up p place limit name)) (calm (it_floods t.z (is_bus m t h))),
 )
 
 pub down_ties : (m n : Bus) (t : Moment) (p : ℕ) (why : Why) → Lawful (also t (Down p why)) → Ties m t → n ≡ record m { pipes = m.pipes - 1 } → Ties n (also t (Down p why))
@@ -271,9 +271,9 @@ given_ties m n t op s text r h c holds first rest same = go m.kept.items refl
 
 -- ---- Frames
 
-module _ (m : Bus) (t : Moment) (p : ℕ) (v : MessageView) (h : Ties m t) where
+module _ (m : Bus) (t : Moment) (p : ℕ) (v : MessageView) (h : Ties m t) (short : is_too_long (past t) p v.body ≡ false) where
   taken_in : takes t.z (past t) 0 p v.body ≡ true
-  taken_in = rw (is_bus m t h) refl
+  taken_in = rw (is_bus m t h, short) refl
 
   abbrev item : Item
   item = record { pipe = p; words = []; message = record { header = header_of m.raw p; body = v.body } }
@@ -349,8 +349,8 @@ module _ (m : Bus) (t : Moment) (p : ℕ) (v : MessageView) (h : Ties m t) where
           go true k = absurd (a (grind (arith, nat_tests)))
           go false k = refl
 
-pub well_formed : (m : Bus) (t : Moment) (p : ℕ) (b : List ℕ) → Ties m t → malformed t.z (past t) p b ≡ false
-well_formed m t p b h = rw (is_bus m t h) refl
+pub well_formed : (m : Bus) (t : Moment) (b : List ℕ) → Ties m t → breaks_rule t.z b ≡ false
+well_formed m t b h = rw (is_bus m t h) refl
 
 -- ---- A turn begins
 

@@ -1,11 +1,13 @@
 -- The laws of a bus as a machine.
-use Rattle.std.specs.Prelude.{◌≡◌, []}
+use Rattle.std.specs.Prelude.{◌≡◌, ℕ, true, List, []}
 use Rattle.sp_history.specs.declared.entry.Entry.{Entry}
+use Rattle.sp_history.specs.declared.entry.Entry.TheVariants.{Frame}
+use Rattle.sp_history.specs.Frames.{is_too_long}
 use Rattle.sp_history.specs.declared.parts.Begun.{Begun}
 use Rattle.sp_history.specs.Moments.{Moment, Lawful, past, also, IsSilent}
 use Rattle.sp_proto.specs.Kinds.{Starts, kind_of}
-use Rattle.sp_proto.specs.Readings.{MomentReading, stays, starts}
-use Rattle.proto_shared.proofs.FloodTurns.{silently}
+use Rattle.sp_proto.specs.Readings.{MomentReading, stays, passes_frame, starts}
+use Rattle.proto_shared.proofs.FloodTurns.{silently, past_frame}
 use Rattle.proto_bus.specs.declared.Bus.{Bus}
 use Rattle.proto_bus.specs.Buses.{Ties, Stands, IsFlood, bus_kind}
 
@@ -14,6 +16,9 @@ kinds m t h = h.0.kind
 
 pub silent : (m : Bus) (t : Moment) (e : Entry) → IsSilent e → Lawful (also t e) → Ties m t → Ties m (also t e)
 silent m t e h l k = (stays Stands m t e h k.0, silently _ t e (λ (r : MomentReading) (s : Begun). IsFlood r.kind.raw m.left_out m.copies.items s.act) h k.1)
+
+pub passes : (m : Bus) (t : Moment) (p : ℕ) (b : List ℕ) → is_too_long (past t) p b ≡ true → Lawful (also t (Frame p b)) → Ties m t → Ties m (also t (Frame p b))
+passes m t p b h l k = (passes_frame Stands m t p b h k.0, past_frame _ t p b (λ (r : MomentReading) (s : Begun). IsFlood r.kind.raw m.left_out m.copies.items s.act) h k.1)
 
 pub anew : (m : Bus) (t : Moment) → past t ≡ [] → Ties m t → Starts Ties m (bus_kind m.raw m.options)
 anew m t e h slots callers caller = (starts Stands m t (bus_kind m.raw m.options) (kinds m t h) e h.0 slots callers caller, λ l. tt)

@@ -13,13 +13,14 @@
 //! To read: `Ties` of `specs/Buses`, then the calls of `Proto` below. How a flood uses the copies is in `proto_shared`.
 #![tactic(auto)]
 
-ghost use Rattle.std.specs.Prelude.{◌≡◌, ◌<◌, ◌≤◌, ◌+◌, ◌∷◌, ◌++◌, ℕ, List, [], IfOk, IsOk, IfErr, OnOk, OnErr, Option, true, find, filter, length, is_some, Some, None, if◌then◌else◌, nat_lt};
+ghost use Rattle.std.specs.Prelude.{◌≡◌, ◌<◌, ◌≤◌, ◌+◌, ◌∷◌, ◌++◌, ℕ, List, [], IfOk, IsOk, IfErr, OnOk, OnErr, Option, true, find, filter, length, is_some, Some, None, if◌then◌else◌, nat_lt, false};
 ghost use Rattle.std.specs.Option.{option_map};
 ghost use Rattle.sp_base.specs.declared.OpName.{OpName};
 ghost use Rattle.sp_history.specs.declared.entry.Entry.TheVariants.{Frame, Begin};
 ghost use Rattle.sp_history.specs.declared.parts.Begun.{Begun};
 ghost use Rattle.sp_history.specs.Lists.{is_number};
 ghost use Rattle.sp_history.specs.Moments.{Moment, Lawful, past, also};
+ghost use Rattle.sp_history.specs.Frames.{is_too_long};
 ghost use Rattle.sp_history.specs.Past.{is_of, up};
 ghost use Rattle.sp_proto.specs.Kinds.{Starts, entry_act};
 ghost use Rattle.sp_proto.specs.Machines.{Frames, NoFlood, Takes};
@@ -132,6 +133,8 @@ impl Proto for Bus {
 
     ghost silent = { laws.silent };
 
+    ghost passes = { laws.passes };
+
     ghost anew = { laws.anew };
 
     fn role(&self) -> Role {
@@ -165,7 +168,7 @@ impl Proto for Bus {
     /// Never out of memory: there is already memory for all that it keeps.
     fn frame(&mut self, p: PipeId, m: Message) -> Verdict
         requires { m.header ≡ [] }
-        ensures kept { (t : Moment) → Lawful (also t (Frame p m.body)) → Ties self.old t → Frames (Ties self.new) result t p m.body }
+        ensures kept { (t : Moment) → is_too_long (past t) p m.body ≡ false → Lawful (also t (Frame p m.body)) → Ties self.old t → Frames (Ties self.new) result t p m.body }
         ensures room { places_left self.old ≤ places_left self.new }
         ensures fine { (t : Moment) → Lawful (also t (Frame p m.body)) → Ties self.old t → result ≡ Verdict.Fine }
     {

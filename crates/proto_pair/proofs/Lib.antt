@@ -1,1 +1,4 @@
 pub mod Paired
+pub mod Versions
+pub mod Arriving
+pub mod Asking

@@ -16,7 +16,7 @@ use Rattle.sp_history.specs.declared.entry.Entry.TheVariants.{Up, Down, Frame, B
 use Rattle.sp_history.specs.declared.entry.Why.{Why}
 use Rattle.sp_history.specs.declared.entry.WireNumbers.{WireNumbers}
 use Rattle.sp_history.specs.declared.parts.Item.{Item}
-use Rattle.sp_history.specs.Frames.{malformed}
+use Rattle.sp_history.specs.Frames.{breaks_rule, is_too_long}
 use Rattle.sp_history.specs.Once.{AreDistinct}
 use Rattle.sp_history.specs.declared.entry.RecordedAct.{RecordedAct}
 use Rattle.sp_history.specs.declared.entry.RecordedAct.TheVariants.{Recv, Send}
@@ -285,9 +285,9 @@ above : (p last : ℕ) (b : Bool) → p ≡ last + 1 → (b ≡ true → p ≤ l
 above p last true e h = let low = h refl in absurd (omega (arith, low, e))
 above p last false e h = refl
 
-pub up_ties : (m n : Pull) (t : Moment) (p place : ℕ) (name : WireNumbers) → Lawful (also t (Up p place name)) → Ties m t → ((q : ℕ) → mark_at n.sources q ≡ cond (p == q) (Some false) (mark_at m.sources q)) → length n.sources ≡ length m.sources + cond (is_some (mark_at m.sources p)) 0 1
-    → n.kept.items ≡ m.kept.items → length m.kept.items + length m.sources + 1 ≤ deque_capacity n.kept → (n.waiting ≡ m.waiting) × (n.raw ≡ m.raw) × (n.options ≡ m.options) → Ties n (also t (Up p place name))
-up_ties m n t p place name l h e count k room same =
+pub up_ties : (m n : Pull) (t : Moment) (p place limit : ℕ) (name : WireNumbers) → Lawful (also t (Up p place limit name)) → Ties m t → ((q : ℕ) → mark_at n.sources q ≡ cond (p == q) (Some false) (mark_at m.sources q)) → length n.sources ≡ length m.sources + cond (is_some (mark_at m.sources p)) 0 1
+    → n.kept.items ≡ m.kept.items → length m.kept.items + length m.sources + 1 ≤ deque_capacity n.kept → (n.waiting ≡ m.waiting) × (n.raw ≡ m.raw) × (n.options ≡ m.options) → Ties n (also t (Up p place limit name))
+up_ties m n t p place limit name l h e count k room same =
     let next : p ≡ ups (past t) + 1 = l.turn.0.itself.0 in
     let more = places_up (pool t.z (past t) 0) (up (past t)) p in
     let most = places_most (pool t.z (past t) 0) (up (past t)) in
@@ -315,9 +315,9 @@ up_ties m n t p place name l h e count k room same =
         equal true k g = let same : p ≡ q = grind (arith, nat_tests) in omega (arith, same, next)
         equal false k g = absurd cc
 
-module _ (z : Setting) (before : List Entry) (p : ℕ) (b : List ℕ) (h : z.role ≡ role.Pull) where
+module _ (z : Setting) (before : List Entry) (p : ℕ) (b : List ℕ) (h : z.role ≡ role.Pull) (short : is_too_long before p b ≡ false) where
   taken_in : takes z before 0 p b ≡ true
-  taken_in = rw h refl
+  taken_in = rw (h, short) refl
 
   bare_item : of_frame z p b ≡ Some (record { pipe = p; words = []; message = record { header = []; body = b } })
   bare_item = rw h refl
@@ -350,13 +350,13 @@ has_place m t p b l h =
     let places = h.places in
     omega (arith, one, places)
 
-pub frame_ties : (m n : Pull) (t : Moment) (p : ℕ) (v : MessageView) → Lawful (also t (Frame p v.body)) → v.header ≡ [] → Ties m t → n.kept.items ≡ m.kept.items ++ record { pipe = p; message = v } ∷ [] → deque_capacity m.kept ≤ deque_capacity n.kept
+pub frame_ties : (m n : Pull) (t : Moment) (p : ℕ) (v : MessageView) → is_too_long (past t) p v.body ≡ false → Lawful (also t (Frame p v.body)) → v.header ≡ [] → Ties m t → n.kept.items ≡ m.kept.items ++ record { pipe = p; message = v } ∷ [] → deque_capacity m.kept ≤ deque_capacity n.kept
     → ((q : ℕ) → mark_at n.sources q ≡ cond (p == q) (option_map (λ _. true) (mark_at m.sources p)) (mark_at m.sources q)) → length n.sources ≡ length m.sources
     → (n.waiting ≡ m.waiting) × (n.raw ≡ m.raw) × (n.options ≡ m.options) → Ties n (also t (Frame p v.body))
-frame_ties m n t p v l bare h e cap marks count same =
+frame_ties m n t p v short l bare h e cap marks count same =
     let i : Item = record { pipe = p; words = []; message = record { header = []; body = v.body } } in
     let last : item_of (record { pipe = p; message = v }) ≡ i = ap (λ (x : List ℕ). let y : Item = record { pipe = p; words = []; message = record { header = x; body = v.body } } in y) bare in
-    let grown = pool_frame t.z (past t) p v.body (is_pull m t h) in
+    let grown = pool_frame t.z (past t) p v.body (is_pull m t h) short in
     let is_up : has (up (past t)) p ≡ true = l.turn.0.itself.0 in
     let none = unkept m t p v.body l h in
     let one = places_frame (pool t.z (past t) 0) i (up (past t)) is_up none in
@@ -377,5 +377,5 @@ frame_ties m n t p v l bare h e cap marks count same =
       places = subst (λ (is : List Item). length n.kept.items + places_for is (up (past t)) ≤ deque_capacity n.kept) grown (omega (arith, one, places, cap, ap length e, length-append m.kept.items (record { pipe = p; message = v } ∷ [])));
     }
 
-pub well_formed : (m : Pull) (t : Moment) (p : ℕ) (b : List ℕ) → Ties m t → malformed t.z (past t) p b ≡ false
-well_formed m t p b h = rw (is_pull m t h) refl
+pub well_formed : (m : Pull) (t : Moment) (b : List ℕ) → Ties m t → breaks_rule t.z b ≡ false
+well_formed m t b h = rw (is_pull m t h) refl

@@ -22,7 +22,7 @@ use Rattle.sp_history.specs.Lists.{has, without, same_bytes}
 use Rattle.sp_history.specs.Setting.{is_reply}
 use Rattle.sp_history.specs.Past.{is_of, without_begun, pend, pending, ctxs, topics, opened}
 use Rattle.sp_history.specs.Kept.{pool, pool_keeping, pool_of, kept, keeps, takes, add_for, is_on_pool, is_wanted_by, is_from}
-use Rattle.sp_history.specs.Frames.{item_of}
+use Rattle.sp_history.specs.Frames.{item_of, is_too_long}
 use Rattle.sp_history.specs.Legal.{AreAllowed}
 use Rattle.sp_history.specs.Once.{AreApart}
 use Rattle.sp_history.specs.Moments.{Moment, Lawful, AllowedBack, past, also}
@@ -248,14 +248,17 @@ nothing z how (Frame p b ∷ before) c r a l =
         go false e = refl
 
     not_taken : takes z before c p b ≡ false
-    not_taken = by_role ∙ ap (λ b'. cond (not z.raw) (b' && is_wanted_by (topics before c) b) (c == 0)) closed ∙ ap (λ b'. cond (not z.raw) false b') (not_below c 0 (omega (arith, l))) ∙ neither z.raw
+    not_taken =
+        by_role ∙ ap (λ b'. not (is_too_long before p b) && cond (not z.raw) (b' && is_wanted_by (topics before c) b) (c == 0)) closed
+        ∙ ap (λ b'. not (is_too_long before p b) && cond (not z.raw) false b') (not_below c 0 (omega (arith, l))) ∙ neither (not (is_too_long before p b)) z.raw
       where
-        by_role : takes z before c p b ≡ cond (not z.raw) (has (ctxs before) c && is_wanted_by (topics before c) b) (c == 0)
+        by_role : takes z before c p b ≡ not (is_too_long before p b) && cond (not z.raw) (has (ctxs before) c && is_wanted_by (topics before c) b) (c == 0)
         by_role = rw r refl
 
-        neither : (b' : Bool) → cond (not b') false false ≡ false
-        neither true = refl
-        neither false = refl
+        neither : (short b' : Bool) → (short && cond (not b') false false) ≡ false
+        neither false b' = refl
+        neither true true = refl
+        neither true false = refl
 
     step : (k y : Bool) → y ≡ false → pool z before c ≡ [] → cond k (cond y (add_for z.role z (item_of z p b) (pool z before c)) (pool z before c)) (pool z before c) ≡ []
     step true y e q = ap (λ b'. cond b' (add_for z.role z (item_of z p b) (pool z before c)) (pool z before c)) e ∙ q

@@ -24,7 +24,7 @@ use Rattle.sp_history.specs.Setting.{floods}
 use Rattle.sp_history.specs.Lists.{has, head_of}
 use Rattle.sp_history.specs.Past.{without_begun, pend, pending, up}
 use Rattle.sp_history.specs.Kept.{pool, kept, route, takes, add_for}
-use Rattle.sp_history.specs.Frames.{malformed, item_of as of_frame}
+use Rattle.sp_history.specs.Frames.{breaks_rule, item_of as of_frame}
 use Rattle.sp_history.specs.Sends.{may_go, targets, bytes_of}
 use Rattle.sp_history.specs.Settled.{has_full}
 use Rattle.sp_history.specs.Moments.{Moment, Lawful, past, also, next}
@@ -51,16 +51,16 @@ kept_pub z before c h = rw h refl
 
 -- ---- Pipes
 
-pub up_ties : (m n : Publish) (t : Moment) (p place : ℕ) (name : WireNumbers) → NoFlood t → Lawful (also t (Up p place name)) → Ties m t → n ≡ record m { pipes = min (m.pipes + 1) (2 ^ 64 - 1) } → Ties n (also t (Up p place name))
-up_ties m n t p place name calm l h same = (
+pub up_ties : (m n : Publish) (t : Moment) (p place limit : ℕ) (name : WireNumbers) → NoFlood t → Lawful (also t (Up p place limit name)) → Ties m t → n ≡ record m { pipes = min (m.pipes + 1) (2 ^ 64 - 1) } → Ties n (also t (Up p place limit name))
+up_ties m n t p place limit name calm l h same = (
   record {
     kind = rw same h.0.kind;
-    pipes = rw same (counted_up t p place name m.pipes l h.0.pipes);
+    pipes = rw same (counted_up t p place limit name m.pipes l h.0.pipes);
     items = h.0.items;
     pending = rw same h.0.pending;
     contexts = h.0.contexts;
   },
-  no_flood _ _ (also t (Up p place name)) (calm (it_floods t.z (is_pub m t h))),
+  no_flood _ _ (also t (Up p place limit name)) (calm (it_floods t.z (is_pub m t h))),
 )
 
 pub down_ties : (m n : Publish) (t : Moment) (p : ℕ) (why : Why) → Lawful (also t (Down p why)) → Ties m t → n ≡ record m { pipes = m.pipes - 1 } → Ties n (also t (Down p why))
@@ -197,8 +197,8 @@ module _ (m : Publish) (t : Moment) (p : ℕ) (b : List ℕ) (h : Ties m t) wher
           passed : takes t.z (past t) 0 p b ≡ false
           passed = rw (is_pub m t h) refl
 
-pub ill_formed : (m : Publish) (t : Moment) (p : ℕ) (b : List ℕ) → Ties m t → malformed t.z (past t) p b ≡ true
-ill_formed m t p b h = rw (is_pub m t h) refl
+pub ill_formed : (m : Publish) (t : Moment) (b : List ℕ) → Ties m t → breaks_rule t.z b ≡ true
+ill_formed m t b h = rw (is_pub m t h) refl
 
 -- ---- A turn begins
 

@@ -31,7 +31,7 @@ use Rattle.sp_history.specs.Lists.{has, is_nil, head_of, same_bytes}
 use Rattle.sp_history.specs.Setting.{floods, has_contexts, is_reply}
 use Rattle.sp_history.specs.Past.{is_of, without_begun, pend, pending, ctxs, topics}
 use Rattle.sp_history.specs.Kept.{pool, kept, takes, add_for, add_discarding, is_wanted_by, is_on_pool, is_from}
-use Rattle.sp_history.specs.Frames.{malformed, plain_item, item_of}
+use Rattle.sp_history.specs.Frames.{breaks_rule, is_too_long, plain_item, item_of}
 use Rattle.sp_history.specs.Settled.{receive_settled, send_settled, has_full}
 use Rattle.sp_history.specs.Legal.{is_recv_on, is_state, does, AreAllowed}
 use Rattle.sp_history.specs.Once.{AreApart}
@@ -90,12 +90,12 @@ views_added y most i is = ap (λ n. cond (nat_lt n most) (map view_of is ++ view
     go false true = ap (λ (vs : List MessageView). vs ++ view_of i ∷ []) (less is) ∙ more (drop 1 is)
     go false false = refl
 
-module _ (m : Subscribe) (t : Moment) (p : ℕ) (v : MessageView) (h : Ties m t) (a : AreAllowed t.z (past t)) (bare : v.header ≡ []) where
+module _ (m : Subscribe) (t : Moment) (p : ℕ) (v : MessageView) (h : Ties m t) (short : is_too_long (past t) p v.body ≡ false) (a : AreAllowed t.z (past t)) (bare : v.header ≡ []) where
   takes_is : (c : ℕ) → has (ctxs (past t)) c ≡ true → takes t.z (past t) c p v.body ≡ (m.raw || is_wanted_by (tops t c) v.body)
   takes_is c k = by_role ∙ ap (λ b. cond (not t.z.raw) (b && is_wanted_by (tops t c) v.body) (c == 0)) k ∙ go t.z.raw refl ∙ ap (λ b. b || is_wanted_by (tops t c) v.body) (is_raw m t h)
     where
       by_role : takes t.z (past t) c p v.body ≡ cond (not t.z.raw) (has (ctxs (past t)) c && is_wanted_by (tops t c) v.body) (c == 0)
-      by_role = rw (is_sub m t h) refl
+      by_role = rw (is_sub m t h, short) refl
 
       zero_is : (n : ℕ) → n ≡ 0 → (n == 0) ≡ true
       zero_is n e = grind (arith, nat_tests)
@@ -131,7 +131,7 @@ module _ (m : Subscribe) (t : Moment) (p : ℕ) (v : MessageView) (h : Ties m t)
       go true = ap (λ (vs : List MessageView). let x : SubContextView = record { ctx = c; topics = tops t c; places = m.options.queue; kept = vs } in x) puts
       go false = refl
 
-  well_formed : malformed t.z (past t) p v.body ≡ false
+  well_formed : breaks_rule t.z v.body ≡ false
   well_formed = rw (is_sub m t h) refl
 
   pub whole_ties : (n : Subscribe) → n.contexts.items ≡ map (kept_in m.raw m.options v) m.contexts.items → n.waiting ≡ m.waiting → n.looked ≡ 0 → (n.raw ≡ m.raw) × (n.options ≡ m.options) → Frames (Ties n) verdicts.Fine t p v.body

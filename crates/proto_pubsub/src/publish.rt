@@ -3,9 +3,10 @@
 //! A send goes to every pipe that is up and has room, in the turn of its begin. It then takes a copy for each of them,
 //! so that going out takes no memory. A pub receives nothing: a frame is not a message of its protocol, whatever its
 //! bytes.
-ghost use Rattle.std.specs.Prelude.{◌≡◌, ◌<◌, ◌≤◌, ◌+◌, ℕ, [], Option, IfOk, IsOk, IfErr, OnOk, OnErr, length};
+ghost use Rattle.std.specs.Prelude.{◌≡◌, ◌<◌, ◌≤◌, ◌+◌, ℕ, [], Option, IfOk, IsOk, IfErr, OnOk, OnErr, length, false};
 ghost use Rattle.sp_history.specs.declared.entry.Entry.TheVariants.{Frame, Begin};
 ghost use Rattle.sp_history.specs.Moments.{Moment, Lawful, past, also};
+ghost use Rattle.sp_history.specs.Frames.{is_too_long};
 ghost use Rattle.sp_history.specs.Past.{up};
 ghost use Rattle.sp_proto.specs.Kinds.{Starts, entry_act};
 ghost use Rattle.sp_proto.specs.Machines.{Frames, NoFlood, Takes};
@@ -67,6 +68,8 @@ impl Proto for Publish {
 
     ghost silent = { laws.silent };
 
+    ghost passes = { laws.passes };
+
     ghost anew = { laws.anew };
 
     fn role(&self) -> Role {
@@ -100,7 +103,7 @@ impl Proto for Publish {
     /// A frame closes its pipe.
     fn frame(&mut self, p: PipeId, m: Message) -> Verdict
         requires { m.header ≡ [] }
-        ensures kept { (t : Moment) → Lawful (also t (Frame p m.body)) → Ties self.old t → Frames (Ties self.new) result t p m.body }
+        ensures kept { (t : Moment) → is_too_long (past t) p m.body ≡ false → Lawful (also t (Frame p m.body)) → Ties self.old t → Frames (Ties self.new) result t p m.body }
         ensures room { places_left self.old ≤ places_left self.new }
         ensures malformed { result ≡ Verdict.Malformed }
     {

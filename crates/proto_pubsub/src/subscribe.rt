@@ -12,6 +12,7 @@ ghost use Rattle.std.specs.List.{position, list_any};
 ghost use Rattle.sp_history.specs.declared.entry.Entry.TheVariants.{Frame};
 ghost use Rattle.sp_history.specs.Lists.{is_nil};
 ghost use Rattle.sp_history.specs.Moments.{Moment, Lawful, past, also};
+ghost use Rattle.sp_history.specs.Frames.{is_too_long};
 ghost use Rattle.sp_history.specs.Past.{ctxs};
 ghost use Rattle.sp_proto.specs.Kinds.{Starts};
 ghost use Rattle.sp_proto.specs.Machines.{Frames};
@@ -281,6 +282,8 @@ impl Proto for Subscribe {
 
     ghost silent = { laws.silent };
 
+    ghost passes = { laws.passes };
+
     ghost anew = { laws.anew };
 
     fn role(&self) -> Role {
@@ -316,11 +319,11 @@ impl Proto for Subscribe {
     /// context gets the frame itself. The topics that match are found by the prefixes of the body.
     fn frame(&mut self, p: PipeId, m: Message) -> Verdict
         requires { m.header ≡ [] }
-        ensures kept { (t : Moment) → Lawful (also t (Frame p m.body)) → Ties self.old t → Frames (Ties self.new) result t p m.body }
+        ensures kept { (t : Moment) → is_too_long (past t) p m.body ≡ false → Lawful (also t (Frame p m.body)) → Ties self.old t → Frames (Ties self.new) result t p m.body }
         ensures room { places_left self.old ≤ places_left self.new }
         ensures one { (t : Moment) → Ties self.old t → length (ctxs (past t)) ≤ 1 → result ≡ Verdict.Fine }
         ensures raw { (t : Moment) → Lawful (also t (Frame p m.body)) → Ties self.old t → t.z.raw ≡ true → result ≡ Verdict.Fine }
-        ensures dry { (t : Moment) (c : ℕ) → Lawful (also t (Frame p m.body)) → Ties self.old t → result ≡ Verdict.Dry c → NeedsCopy t.z (past t) c p m.body }
+        ensures dry { (t : Moment) (c : ℕ) → is_too_long (past t) p m.body ≡ false → Lawful (also t (Frame p m.body)) → Ties self.old t → result ≡ Verdict.Dry c → NeedsCopy t.z (past t) c p m.body }
         ensures prefixes { (ts : List (List ℕ)) → AreShort ts → IsWantedByPrefix ts m.body }
         ensures fits { result ≢ Verdict.NoMemory }
     {

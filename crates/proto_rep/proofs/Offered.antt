@@ -10,7 +10,7 @@ use Rattle.sp_history.specs.declared.entry.Entry.{Entry}
 use Rattle.sp_history.specs.declared.entry.RecordedAct.TheVariants.{Recv}
 use Rattle.sp_history.specs.declared.parts.Begun.{Begun}
 use Rattle.sp_history.specs.Lists.{has, is_nil, is_number, same_op}
-use Rattle.sp_history.specs.Setting.{is_reply}
+use Rattle.sp_history.specs.Setting.{is_reply, is_pair1, has_hops}
 use Rattle.sp_history.specs.Past.{is_of, up}
 use Rattle.sp_history.specs.Kept.{route, pool, kept}
 use Rattle.sp_history.specs.Requests.{request_of}
@@ -37,10 +37,10 @@ use Rattle.std.proofs.Common.{inl, inr}
 use Rattle.proto_rep.proofs.RepEnds.{all_apart, targets_are, route_of, out_bytes}
 use Rattle.sp_proto.specs.Machines.{IsOffered}
 use Rattle.sp_proto.specs.declared.Offer.{Offer}
-use Rattle.sp_history.specs.Sends.{targets_of, bytes_of_act}
+use Rattle.sp_history.specs.Sends.{targets_of, bytes_of_act, lacks_hops, has_no_way}
 use Rattle.proto_rep.proofs.Replied.{is_rep, is_raw, kept_rep}
 use Rattle.proto_rep.specs.declared.rep.ReplyRole.{ReplyRole}
-use Rattle.proto_rep.proofs.Roles.{replies, no_floods, asks_nothing, no_resends}
+use Rattle.proto_rep.proofs.Roles.{replies, no_pair, no_floods, asks_nothing, no_resends}
 use Rattle.sp_history.specs.Requests.{asked, no_requests}
 
 -- ---- Idle
@@ -93,15 +93,16 @@ settled_send : (y : ReplyRole) (z : Setting) (before : List Entry) (full : ℕ �
     → is_ready raw (map (port_of full) (up before)) w ≡ false → send_settled z before full (begun_of w) ≡ true
 settled_send y z before full raw w h k o f = go w.answer refl
   where
-    holds : (b : Bool) (us : List ℕ) (q : ℕ) → us ≡ filter (is_number (Some q)) (up before) → has (up before) q ≡ true → full q ≡ true → (b || list_all full us && not (is_reply z.role && is_nil us)) ≡ true
-    holds true us q e g i = refl
-    holds false us q e g i = rw (e, all_full full (up before) q i, not_nil (up before) q g, replies y z h) refl
+    holds : (b : Bool) (us : List ℕ) (lacks : Bool) (q : ℕ) → us ≡ filter (is_number (Some q)) (up before) → has (up before) q ≡ true → full q ≡ true
+        → (b || list_all full us && not (is_reply z.role && is_nil us || (is_pair1 z.role && z.raw) && lacks)) ≡ true
+    holds true us lacks q e g i = refl
+    holds false us lacks q e g i = rw (e, all_full full (up before) q i, not_nil (up before) q g, replies y z h, no_pair y z h) refl
 
     go : (x : Option PendingReply) → w.answer ≡ x → send_settled z before full (begun_of w) ≡ true
-    go None e = ap (λ (x : Option PendingReply). is_recv (act_of x) || list_all full (targets z before (begun_of w)) && not (is_reply z.role && is_nil (targets z before (begun_of w)))) e
+    go None e = ap (λ (x : Option PendingReply). is_recv (act_of x) || list_all full (targets z before (begun_of w)) && not (has_no_way z before (begun_of w))) e
     go (Some r) e =
         let at = full_targets y z before full raw w r h k e (o r e) (sym (ap (λ (x : Option PendingReply). can_go raw (map (port_of full) (up before)) x) e) ∙ f) in
-        holds (is_recv (act_of w.answer)) (targets z before (begun_of w)) at.0 at.1 at.2 at.3
+        holds (is_recv (act_of w.answer)) (targets z before (begun_of w)) (lacks_hops (act_of w.answer)) at.0 at.1 at.2 at.3
 
 sends_settled : (y : ReplyRole) (z : Setting) (before : List Entry) (full : ℕ → Bool) (raw : Bool) (ws : List ReplyOperation) → z.role ≡ role_of y → z.raw ≡ raw → Routed (λ o. route z before o) ws → find (is_ready raw (map (port_of full) (up before))) ws ≡ None
     → list_all (send_settled z before full) (map begun_of ws) ≡ true
@@ -267,11 +268,11 @@ can_drop m t w r k q h f e g =
     record {
       pending = ap (find (is_of w.op)) (sym h.pending) ∙ find_own (is_ready_to m.raw m.ports.items k) h.waits w f apart;
       is_send = ap (λ (x : Option PendingReply). is_recv (act_of x)) e;
-      nowhere = all (is_reply t.z.role) (targets t.z (past t) (begun_of w)) (unclaimed t.z (past t)) (replies m.role t.z (is_rep m t h)) (targets_are m.role t.z (past t) m.raw w r (is_rep m t h) (is_raw m t h) e from ∙ none) q.outs_claimed;
+      nowhere = all (is_reply t.z.role) (targets t.z (past t) (begun_of w)) (has_hops t.z && lacks_hops (act_of w.answer)) (unclaimed t.z (past t)) (replies m.role t.z (is_rep m t h)) (targets_are m.role t.z (past t) m.raw w r (is_rep m t h) (is_raw m t h) e from ∙ none) q.outs_claimed;
     }
   where
-    all : (x : Bool) (us : List ℕ) (b : Bool) → x ≡ true → us ≡ [] → b ≡ false → (x && is_nil us && not b) ≡ true
-    all x us b h k n = rw (h, k, n) refl
+    all : (x : Bool) (us : List ℕ) (y b : Bool) → x ≡ true → us ≡ [] → b ≡ false → ((x && is_nil us || y) && not b) ≡ true
+    all x us y b h k n = rw (h, k, n) refl
 
 -- what is left to offer where no receive can be given anything
 pub sends_right : (m : Reply) (t : Moment) (x : Offer) → Calm t.z (past t) → (h : Ties m t) → (m.kept.items ≡ []) ⊎ (find is_receive h.waits ≡ None) → SendsFirst m.raw m.ports.items h.waits x → IsOffered x t

@@ -1,5 +1,5 @@
 -- A rep stands for its history after a frame.
-use Rattle.std.proofs.Common.{◌≡◌, refl, ap, sym, ◌∙◌, List, [], ◌∷◌, ◌++◌, ℕ, Bool, true, false, cond, arith, Option, Some, length, map, ◌≤◌}
+use Rattle.std.proofs.Common.{◌≡◌, refl, ap, sym, ◌∙◌, List, [], ◌∷◌, ◌++◌, ℕ, Bool, true, false, cond, arith, Option, Some, None, length, map, ◌≤◌}
 use Rattle.std.specs.Prelude.{not, ◌&&◌, ◌==◌, Result, Ok, Err}
 use Rattle.std.specs.List.{list_any}
 use Rattle.std.proofs.lemmas.List.{map-append}
@@ -17,7 +17,8 @@ use Rattle.sp_history.specs.declared.parts.Back.TheVariants.{Found, TooFar, Shor
 use Rattle.sp_history.specs.Lists.{has, word}
 use Rattle.sp_history.specs.Setting.{has_topics}
 use Rattle.sp_history.specs.Backtrace.{back, is_short}
-use Rattle.sp_history.specs.Frames.{malformed, malformed_for, traced_item, item_for, item_of as item_in}
+use Rattle.sp_history.proofs.Malformed.{by_rule, pool_same}
+use Rattle.sp_history.specs.Frames.{breaks_rule, is_too_long, malformed, malformed_for, traced_item, item_for, item_of as item_in}
 use Rattle.sp_history.specs.Past.{ctxs, topics}
 use Rattle.sp_history.specs.Kept.{pool, takes, is_wanted_by, add_item, add_for}
 use Rattle.sp_history.specs.Moments.{Moment, Lawful, past, also}
@@ -40,6 +41,16 @@ whole_is (Found words rest) h = (words, rest, refl)
 whole_is TooFar h = absurd cc
 whole_is Short h = absurd cc
 
+far_is : (b : Back) → trail_of b ≡ trails.TooFar → b ≡ TooFar
+far_is (Found words rest) h = absurd cc
+far_is TooFar h = refl
+far_is Short h = absurd cc
+
+short_is : (b : Back) → trail_of b ≡ trails.Short → b ≡ Short
+short_is (Found words rest) h = absurd cc
+short_is TooFar h = absurd cc
+short_is Short h = refl
+
 -- the item that a frame with a whole backtrace is kept as
 item_is : (m : Reply) (t : Moment) (p : ℕ) (b : List ℕ) → Ties m t → item_in t.z p b ≡ traced_item m.raw p (back m.options.ttl b)
 item_is m t p b h =
@@ -51,15 +62,15 @@ item_is m t p b h =
     traced_for sides.Respondent raw ttl = refl
 
 -- a frame is malformed, or not
-pub malformed_is : (m : Reply) (t : Moment) (p : ℕ) (b : List ℕ) → Ties m t → malformed t.z (past t) p b ≡ is_short (back m.options.ttl b)
-malformed_is m t p b h = ap (λ (r : Role). malformed_for r t.z.options.ttl b) (is_rep m t h) ∙ short_for m.role t.z.options.ttl ∙ ap (λ (o : Options). is_short (back o.ttl b)) (is_options m t h)
+pub malformed_is : (m : Reply) (t : Moment) (b : List ℕ) → Ties m t → breaks_rule t.z b ≡ is_short (back m.options.ttl b)
+malformed_is m t b h = ap (λ (r : Role). malformed_for r t.z.options.ttl b) (is_rep m t h) ∙ short_for m.role t.z.options.ttl ∙ ap (λ (o : Options). is_short (back o.ttl b)) (is_options m t h)
   where
     short_for : (y : ReplyRole) (ttl : ℕ) → malformed_for (role_of y) ttl b ≡ is_short (back ttl b)
     short_for sides.Rep ttl = refl
     short_for sides.Respondent ttl = refl
 
-well_formed : (m : Reply) (t : Moment) (p : ℕ) (b words rest : List ℕ) → Ties m t → back m.options.ttl b ≡ Found words rest → malformed t.z (past t) p b ≡ false
-well_formed m t p b words rest h e = malformed_is m t p b h ∙ ap is_short e
+well_formed : (m : Reply) (t : Moment) (b words rest : List ℕ) → Ties m t → back m.options.ttl b ≡ Found words rest → breaks_rule t.z b ≡ false
+well_formed m t b words rest h e = malformed_is m t b h ∙ ap is_short e
 
 pool_frame : (y : ReplyRole) (z : Setting) (before : List Entry) (p : ℕ) (b : List ℕ) → z.role ≡ role_of y → malformed z before p b ≡ false → pool z (Frame p b ∷ before) 0 ≡ add_item (item_in z p b) (pool z before 0)
 pool_frame y z before p b h k =
@@ -79,12 +90,46 @@ none_kept m t p b l h = no _ (wants_means m.role t.z (past t) p m.kept.items (is
     no true e = absurd cc
     no false e = refl
 
+module _ (m : Reply) (t : Moment) (p : ℕ) (b x : List ℕ) where
+  same_after : Ties m t → pool t.z (Frame p b ∷ past t) 0 ≡ pool t.z (past t) 0 → Ties m (also t (Frame p b))
+  same_after h e =
+      record {
+        kind = h.kind;
+        most = h.most;
+        pipes = h.pipes;
+        items = h.items ∙ sym e;
+        waits = h.waits;
+        holds = h.holds;
+        pending = h.pending;
+        apart = h.apart;
+        contexts = h.contexts;
+        of_contexts = h.of_contexts;
+        stored = h.stored;
+        routed = h.routed;
+        stuck = h.stuck;
+      }
+
+  -- a frame whose backtrace has no end
+  pub frame_short : is_too_long (past t) p b ≡ false → Ties m t → x ≡ b → trails.Short ≡ trail_of (back m.options.ttl x) → (breaks_rule t.z b ≡ true) × Ties m (also t (Frame p b))
+  frame_short short h e w =
+      let is = short_is (back m.options.ttl b) (sym (w ∙ ap (λ y. trail_of (back m.options.ttl y)) e)) in
+      let bad : breaks_rule t.z b ≡ true = malformed_is m t b h ∙ ap is_short is in
+      (bad, same_after h (pool_same t.z (past t) p b 0 (by_rule t.z (past t) p b short ∙ bad)))
+
+  -- a frame that came too far
+  pub frame_far : is_too_long (past t) p b ≡ false → Ties m t → x ≡ b → trails.TooFar ≡ trail_of (back m.options.ttl x) → (breaks_rule t.z b ≡ false) × Ties m (also t (Frame p b))
+  frame_far short h e w =
+      let is = far_is (back m.options.ttl b) (sym (w ∙ ap (λ y. trail_of (back m.options.ttl y)) e)) in
+      let well : breaks_rule t.z b ≡ false = malformed_is m t b h ∙ ap is_short is in
+      let item : item_in t.z p b ≡ None = item_is m t p b h ∙ ap (traced_item m.raw p) is in
+      (well, same_after h (pool_frame m.role t.z (past t) p b (is_rep m t h) (by_rule t.z (past t) p b short ∙ well) ∙ ap (λ (o : Option Item). add_item o (pool t.z (past t) 0)) item))
+
 module _ (m n : Reply) (t : Moment) (p : ℕ) (b x : List ℕ) (k : KeptRequest) where
-  pub frame_kept : Ties m t → x ≡ b → trails.Whole ≡ trail_of (back m.options.ttl x) → ((words rest : List ℕ) → back m.options.ttl b ≡ Found words rest → Some (item_of k) ≡ traced_item m.raw p (Found words rest))
-      → n.kept.items ≡ m.kept.items ++ k ∷ [] → n.ports ≡ m.ports → n.waiting ≡ m.waiting → n.places ≡ m.places → (n.raw ≡ m.raw) × (n.options ≡ m.options) × (n.role ≡ m.role) → (malformed t.z (past t) p b ≡ false) × Ties n (also t (Frame p b))
-  frame_kept h e w i f g v l same =
+  pub frame_kept : is_too_long (past t) p b ≡ false → Ties m t → x ≡ b → trails.Whole ≡ trail_of (back m.options.ttl x) → ((words rest : List ℕ) → back m.options.ttl b ≡ Found words rest → Some (item_of k) ≡ traced_item m.raw p (Found words rest))
+      → n.kept.items ≡ m.kept.items ++ k ∷ [] → n.ports ≡ m.ports → n.waiting ≡ m.waiting → n.places ≡ m.places → (n.raw ≡ m.raw) × (n.options ≡ m.options) × (n.role ≡ m.role) → (breaks_rule t.z b ≡ false) × Ties n (also t (Frame p b))
+  frame_kept short h e w i f g v l same =
       let whole = whole_is (back m.options.ttl b) (sym (w ∙ ap (λ y. trail_of (back m.options.ttl y)) e)) in
-      let well = well_formed m t p b whole.0 whole.1 h whole.2 in
+      let well = well_formed m t b whole.0 whole.1 h whole.2 in
       let item : item_in t.z p b ≡ Some (item_of k) = item_is m t p b h ∙ ap (traced_item m.raw p) whole.2 ∙ sym (i whole.0 whole.1 whole.2) in (
         well,
         record {
@@ -93,7 +138,7 @@ module _ (m n : Reply) (t : Moment) (p : ℕ) (b x : List ℕ) (k : KeptRequest)
           pipes = rw g h.pipes;
           items =
               ap (map item_of) f ∙ map-append item_of m.kept.items (k ∷ []) ∙ ap (λ (is : List Item). is ++ item_of k ∷ []) h.items
-              ∙ sym (pool_frame m.role t.z (past t) p b (is_rep m t h) well ∙ ap (λ (o : Option Item). add_item o (pool t.z (past t) 0)) item);
+              ∙ sym (pool_frame m.role t.z (past t) p b (is_rep m t h) (by_rule t.z (past t) p b short ∙ well) ∙ ap (λ (o : Option Item). add_item o (pool t.z (past t) 0)) item);
           waits = h.waits;
           holds = rw v h.holds;
           pending = h.pending;
@@ -107,10 +152,10 @@ module _ (m n : Reply) (t : Moment) (p : ℕ) (b x : List ℕ) (k : KeptRequest)
       )
 
   pub frame_unkept : Ties m t → x ≡ b → trails.Whole ≡ trail_of (back m.options.ttl x) → n.kept.items ≡ m.kept.items → n.ports ≡ m.ports → n.waiting ≡ m.waiting → n.places ≡ m.places → (n.raw ≡ m.raw) × (n.options ≡ m.options) × (n.role ≡ m.role)
-      → (malformed t.z (past t) p b ≡ false) × Ties n (also (also t (Frame p b)) (Unkept p))
+      → (breaks_rule t.z b ≡ false) × Ties n (also (also t (Frame p b)) (Unkept p))
   frame_unkept h e w f g v l same =
       let whole = whole_is (back m.options.ttl b) (sym (w ∙ ap (λ y. trail_of (back m.options.ttl y)) e)) in (
-        well_formed m t p b whole.0 whole.1 h whole.2,
+        well_formed m t b whole.0 whole.1 h whole.2,
         record {
           kind = rw (same.0, same.1, same.2) h.kind;
           most = rw same.1 h.most;

@@ -94,12 +94,12 @@ kept_without p (k ∷ ks) = go (k.pipe == p) (kept_without p ks)
 pool_down : (y : ReplyRole) (z : Setting) (before : List Entry) (p : ℕ) (why : Why) → z.role ≡ role_of y → pool z (Down p why ∷ before) 0 ≡ filter (λ i. not (is_from p i)) (pool z before 0)
 pool_down y z before p why h = ap (λ b. cond b (filter (λ i. not (is_from p i)) (pool z before 0)) (pool z before 0)) (replies y z h)
 
-pub up_below : (m : Reply) (t : Moment) (p place : ℕ) (name : WireNumbers) → Lawful (also t (Up p place name)) → Ties m t → list_all (is_below p) m.ports.items ≡ true
-up_below m t p place name l h = known_below m.ports.items (up (past t)) (ups (past t)) p (λ q. has_full t.turn q) h.pipes l.turn.0.itself.0
+pub up_below : (m : Reply) (t : Moment) (p place limit : ℕ) (name : WireNumbers) → Lawful (also t (Up p place limit name)) → Ties m t → list_all (is_below p) m.ports.items ≡ true
+up_below m t p place limit name l h = known_below m.ports.items (up (past t)) (ups (past t)) p (λ q. has_full t.turn q) h.pipes l.turn.0.itself.0
 
-pub up_ties : (m n : Reply) (t : Moment) (p place : ℕ) (name : WireNumbers) → Lawful (also t (Up p place name)) → Ties m t → n.ports.items ≡ m.ports.items ++ record { pipe = p; is_full = false } ∷ [] → n.kept ≡ m.kept → n.waiting ≡ m.waiting → n.places ≡ m.places
-    → (n.raw ≡ m.raw) × (n.options ≡ m.options) × (n.role ≡ m.role) → Ties n (also t (Up p place name))
-up_ties m n t p place name l h e f w g same =
+pub up_ties : (m n : Reply) (t : Moment) (p place limit : ℕ) (name : WireNumbers) → Lawful (also t (Up p place limit name)) → Ties m t → n.ports.items ≡ m.ports.items ++ record { pipe = p; is_full = false } ∷ [] → n.kept ≡ m.kept → n.waiting ≡ m.waiting → n.places ≡ m.places
+    → (n.raw ≡ m.raw) × (n.options ≡ m.options) × (n.role ≡ m.role) → Ties n (also t (Up p place limit name))
+up_ties m n t p place limit name l h e f w g same =
     record {
       kind = rw (same.0, same.1, same.2) h.kind;
       most = rw same.1 h.most;

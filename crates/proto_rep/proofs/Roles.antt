@@ -1,7 +1,7 @@
 -- What rep and respondent have in common.
 use Rattle.std.proofs.Common.{◌≡◌, refl, true, false}
 use Rattle.sp_history.specs.declared.setting.Setting.{Setting}
-use Rattle.sp_history.specs.Setting.{is_reply, floods, has_topics, has_stored, has_requests, resends}
+use Rattle.sp_history.specs.Setting.{is_reply, is_pair1, floods, has_topics, has_stored, has_requests, resends}
 use Rattle.proto_rep.specs.declared.rep.ReplyRole.{ReplyRole}
 use Rattle.proto_rep.specs.declared.rep.ReplyRole.TheVariants as sides
 use Rattle.proto_rep.specs.Reps.{role_of}
@@ -9,6 +9,10 @@ use Rattle.proto_rep.specs.Reps.{role_of}
 pub replies : (y : ReplyRole) (z : Setting) → z.role ≡ role_of y → is_reply z.role ≡ true
 replies sides.Rep z h = rw h refl
 replies sides.Respondent z h = rw h refl
+
+pub no_pair : (y : ReplyRole) (z : Setting) → z.role ≡ role_of y → is_pair1 z.role ≡ false
+no_pair sides.Rep z h = rw h refl
+no_pair sides.Respondent z h = rw h refl
 
 pub no_floods : (y : ReplyRole) (z : Setting) → z.role ≡ role_of y → floods z.role ≡ false
 no_floods sides.Rep z h = rw h refl

@@ -1,9 +1,11 @@
 -- The laws of a rep as a machine.
-use Rattle.std.specs.Prelude.{◌≡◌, []}
+use Rattle.std.specs.Prelude.{◌≡◌, ℕ, true, List, []}
 use Rattle.sp_history.specs.declared.entry.Entry.{Entry}
+use Rattle.sp_history.specs.declared.entry.Entry.TheVariants.{Frame}
+use Rattle.sp_history.specs.Frames.{is_too_long}
 use Rattle.sp_history.specs.Moments.{Moment, Lawful, past, also, IsSilent}
 use Rattle.sp_proto.specs.Kinds.{Starts, kind_of}
-use Rattle.sp_proto.specs.Readings.{stays, starts}
+use Rattle.sp_proto.specs.Readings.{stays, passes_frame, starts}
 use Rattle.proto_rep.specs.declared.rep.Reply.{Reply}
 use Rattle.proto_rep.specs.Reps.{Ties, Stands, role_of, reply_kind}
 
@@ -12,6 +14,9 @@ kinds m t h = h.kind
 
 pub silent : (m : Reply) (t : Moment) (e : Entry) → IsSilent e → Lawful (also t e) → Ties m t → Ties m (also t e)
 silent m t e h l k = stays Stands m t e h k
+
+pub passes : (m : Reply) (t : Moment) (p : ℕ) (b : List ℕ) → is_too_long (past t) p b ≡ true → Lawful (also t (Frame p b)) → Ties m t → Ties m (also t (Frame p b))
+passes m t p b h l k = passes_frame Stands m t p b h k
 
 pub anew : (m : Reply) (t : Moment) → past t ≡ [] → Ties m t → Starts Ties m (reply_kind (role_of m.role) m.raw m.options)
 anew m t e h = starts Stands m t (reply_kind (role_of m.role) m.raw m.options) (kinds m t h) e h

@@ -1,11 +1,11 @@
 //! The machine of rep, and of respondent.
-ghost use Rattle.std.specs.Prelude.{◌≡◌, ◌≤◌, ◌<◌, ◌+◌, ℕ, Option, List, [], Some, None, IfErr, IfOk, OnErr, OnOk, MatchOption, length};
+ghost use Rattle.std.specs.Prelude.{◌≡◌, ◌≤◌, ◌<◌, ◌+◌, ℕ, Option, List, [], Some, None, IfErr, IfOk, OnErr, OnOk, MatchOption, length, false};
 ghost use Rattle.sp_base.specs.declared.role.Role.TheVariants as role;
 ghost use Rattle.sp_history.specs.declared.entry.Entry.TheVariants.{Begin, Frame};
-ghost use Rattle.sp_history.specs.Moments.{Moment, Lawful, also};
+ghost use Rattle.sp_history.specs.Moments.{Moment, Lawful, past, also};
 ghost use Rattle.sp_proto.specs.Machines.{Frames, NoFlood, Takes};
 ghost use Rattle.sp_history.specs.Options.{Fits};
-ghost use Rattle.sp_history.specs.Frames.{traced_item};
+ghost use Rattle.sp_history.specs.Frames.{traced_item, is_too_long};
 ghost use Rattle.sp_history.specs.Backtrace.{back};
 ghost use Rattle.sp_history.specs.declared.parts.Back.TheVariants.{Found};
 ghost use Rattle.sp_msg.specs.Views.{wire_text};
@@ -236,6 +236,8 @@ impl Proto for Reply {
 
     ghost silent = { laws.silent };
 
+    ghost passes = { laws.passes };
+
     ghost anew = { laws.anew };
 
     fn role(&self) -> Role {
@@ -277,7 +279,7 @@ impl Proto for Reply {
     /// A frame that came too far takes no memory, and its pipe stays up.
     fn frame(&mut self, p: PipeId, m: Message) -> Verdict
         requires { m.header ≡ [] }
-        ensures kept { (t : Moment) → Lawful (also t (Frame p m.body)) → Ties self.old t → Frames (Ties self.new) result t p m.body }
+        ensures kept { (t : Moment) → is_too_long (past t) p m.body ≡ false → Lawful (also t (Frame p m.body)) → Ties self.old t → Frames (Ties self.new) result t p m.body }
         ensures room { places_left self.old ≤ places_left self.new }
         ensures too_far { CameTooFar self.old m.body → result ≡ Verdict.Fine }
     {

@@ -18,11 +18,11 @@ use Rattle.sp_history.specs.declared.parts.LiveRequest.{LiveRequest}
 use Rattle.sp_history.specs.declared.parts.Requests.{Requests}
 use Rattle.sp_history.specs.declared.setting.Setting.{Setting}
 use Rattle.sp_history.specs.Lists.{has, head_of, is_nil, same_op}
-use Rattle.sp_history.specs.Setting.{is_reply, has_requests, resends}
+use Rattle.sp_history.specs.Setting.{is_reply, is_pair1, has_hops, has_requests, resends}
 use Rattle.sp_history.specs.Past.{is_of, pending, up, ups, ctxs}
 use Rattle.sp_history.specs.Kept.{kept, route, replies_of}
 use Rattle.sp_history.specs.Requests.{requests, is_orphan, wire_of, live_on, request_of as asked_of, no_requests}
-use Rattle.sp_history.specs.Sends.{may_go, targets, targets_of, bytes_of, bytes_of_act, bytes_for, begun_before, is_due_again}
+use Rattle.sp_history.specs.Sends.{may_go, targets, targets_of, bytes_of, bytes_of_act, bytes_for, begun_before, is_due_again, lacks_hops, has_no_way}
 use Rattle.sp_history.specs.Settled.{has_full, is_dry, receive_settled, send_settled, request_settled}
 use Rattle.sp_history.specs.Legal.{is_recv, is_recv_on}
 use Rattle.sp_history.specs.Once.{AreApart, AreDistinct, occurs}
@@ -268,18 +268,19 @@ sends_settled : (m : Machine) (t : Moment) (full : ℕ → Bool) → Ties m t �
 sends_settled m t full h [] f = refl
 sends_settled m t full h (w ∷ ws) (inl f) = both _ _ (go w.message refl) (sends_settled m t full h ws (inl f))
   where
-    reply : is_reply t.z.role ≡ false
-    reply = rw (is_req_role m t h) refl
+    -- a req has no send that goes nowhere
+    way : (r : Role) (none raw lacks : Bool) → r ≡ role.Req → not (is_reply r && none || (is_pair1 r && raw) && lacks) ≡ true
+    way r none raw lacks e = rw e refl
 
     go : (x : Option MessageView) → w.message ≡ x → send_settled t.z (past t) full (begun_of w) ≡ true
-    go None e = ap (λ (x : Option MessageView). is_recv (act_of x) || list_all full (targets t.z (past t) (begun_of w)) && not (is_reply t.z.role && is_nil (targets t.z (past t) (begun_of w)))) e
+    go None e = ap (λ (x : Option MessageView). is_recv (act_of x) || list_all full (targets t.z (past t) (begun_of w)) && not (has_no_way t.z (past t) (begun_of w))) e
     go (Some x) e =
-        ap (λ (y : Option MessageView). is_recv (act_of y) || list_all full (targets_of t.z (past t) w.op (act_of y)) && not (is_reply t.z.role && is_nil (targets_of t.z (past t) w.op (act_of y)))) e
-        ∙ both _ _ (all_but full (may_go t.z.role t.z.raw (route t.z (past t) w.op) x.header) (up (past t)) f) (ap (λ b. not (b && is_nil (targets_of t.z (past t) w.op (Send (text_of x))))) reply)
+        ap (λ (y : Option MessageView). is_recv (act_of y) || list_all full (targets_of t.z (past t) w.op (act_of y)) && not (is_reply t.z.role && is_nil (targets_of t.z (past t) w.op (act_of y)) || has_hops t.z && lacks_hops (act_of y))) e
+        ∙ both _ _ (all_but full (may_go t.z.role t.z.raw (route t.z (past t) w.op) x.header) (up (past t)) f) (way t.z.role (is_nil (targets_of t.z (past t) w.op (Send (text_of x)))) t.z.raw (lacks_hops (Send (text_of x))) (is_req_role m t h))
 sends_settled m t full h (w ∷ ws) (inr f) = go w.message refl f (λ q. sends_settled m t full h ws (inr q))
   where
     go : (x : Option MessageView) → w.message ≡ x → cond (is_some x) (Some w) (find is_sending ws) ≡ None → (find is_sending ws ≡ None → list_all (send_settled t.z (past t) full) (map begun_of ws) ≡ true) → list_all (send_settled t.z (past t) full) (map begun_of (w ∷ ws)) ≡ true
-    go None e k again = both _ _ (ap (λ (x : Option MessageView). is_recv (act_of x) || list_all full (targets t.z (past t) (begun_of w)) && not (is_reply t.z.role && is_nil (targets t.z (past t) (begun_of w)))) e) (again k)
+    go None e k again = both _ _ (ap (λ (x : Option MessageView). is_recv (act_of x) || list_all full (targets t.z (past t) (begun_of w)) && not (has_no_way t.z (past t) (begun_of w))) e) (again k)
     go (Some x) e k again = absurd cc
 
 -- a request is settled where all pipes are full, or it is not due, or its context is dry

@@ -30,7 +30,8 @@ use Rattle.sp_history.specs.declared.parts.Requests.{Requests}
 use Rattle.sp_history.specs.declared.parts.How.TheVariants as how
 use Rattle.sp_history.specs.Lists.{has, is_nil, first_word}
 use Rattle.sp_history.specs.Setting.{is_reply, has_topics}
-use Rattle.sp_history.specs.Frames.{malformed, malformed_for, plain_item, item_for, item_of as item_in}
+use Rattle.sp_history.proofs.Malformed.{by_rule}
+use Rattle.sp_history.specs.Frames.{breaks_rule, is_too_long, malformed, malformed_for, plain_item, item_for, item_of as item_in}
 use Rattle.sp_history.specs.Past.{pend, up, ups, ctxs, topics, now}
 use Rattle.sp_history.specs.Kept.{pool, kept, replies_of, add_for, add_item, is_wanted_by, wanted, has_none_of, is_from}
 use Rattle.sp_history.specs.Requests.{requests, end_on, after_moment, over_at, with_frame, live_on, begin_on, next_id}
@@ -222,17 +223,17 @@ long_is b e = go (nat_lt (length b) 4) refl
     go false f = refl
     go true f = absurd (e (ap (λ q. cond q None (Some (from_be_bytes w32 (take 4 b)))) f))
 
-pub malformed_is : (m : Machine) (t : Moment) (p : ℕ) (b : List ℕ) → Ties m t → malformed t.z (past t) p b ≡ nat_lt (length b) 4
-malformed_is m t p b h = go t.z.role (is_req_role m t h)
+pub malformed_is : (m : Machine) (t : Moment) (b : List ℕ) → Ties m t → breaks_rule t.z b ≡ nat_lt (length b) 4
+malformed_is m t b h = go t.z.role (is_req_role m t h)
   where
     go : (r : Role) → r ≡ role.Req → malformed_for r t.z.options.ttl b ≡ nat_lt (length b) 4
     go r e = rw e refl
 
-pub short_frame : (m : Machine) (t : Moment) (p : ℕ) (b : List ℕ) → Ties m t → first_word b ≡ None → malformed t.z (past t) p b ≡ true
-short_frame m t p b h e = malformed_is m t p b h ∙ short_is b e
+pub short_frame : (m : Machine) (t : Moment) (b : List ℕ) → Ties m t → first_word b ≡ None → breaks_rule t.z b ≡ true
+short_frame m t b h e = malformed_is m t b h ∙ short_is b e
 
-pub long_frame : (m : Machine) (t : Moment) (p : ℕ) (b : List ℕ) → Ties m t → first_word b ≢ None → malformed t.z (past t) p b ≡ false
-long_frame m t p b h e = malformed_is m t p b h ∙ long_is b e
+pub long_frame : (m : Machine) (t : Moment) (b : List ℕ) → Ties m t → first_word b ≢ None → breaks_rule t.z b ≡ false
+long_frame m t b h e = malformed_is m t b h ∙ long_is b e
 
 -- a frame that is malformed changes no request
 pub short_asked : (m : Machine) (t : Moment) (p : ℕ) (b : List ℕ) → Ties m t → malformed t.z (past t) p b ≡ true → Asked m.raw m.live.items m.last_id m.waiting.items (pend (past t)) (requests t.z (Frame p b ∷ past t))
@@ -252,17 +253,17 @@ short_asked m t p b h e = go m.raw refl
         frame_makes t.z (past t) p b (asks t.z (is_req_role m t h) (is_raw m t h ∙ r)) ∙ ap (λ (l : List LiveRequest). record (requests t.z (past t)) { live = l }) (same (requests t.z (past t)).live) in
         subst (λ (q : Requests). Asked m.raw m.live.items m.last_id m.waiting.items (pend (past t)) q) (sym after) h.3
 
-pub reply_asked : (m : Machine) (t : Moment) (p n : ℕ) (b : List ℕ) (k : KeptReply) → m.raw ≡ false → Ties m t → first_word b ≡ Some n → item_of k ≡ plain_item p (drop 4 b) → Asked m.raw (with_reply n k m.live.items) m.last_id m.waiting.items (pend (past t)) (requests t.z (Frame p b ∷ past t))
-reply_asked m t p n b k r h f i =
+pub reply_asked : (m : Machine) (t : Moment) (p n : ℕ) (b : List ℕ) (k : KeptReply) → is_too_long (past t) p b ≡ false → m.raw ≡ false → Ties m t → first_word b ≡ Some n → item_of k ≡ plain_item p (drop 4 b) → Asked m.raw (with_reply n k m.live.items) m.last_id m.waiting.items (pend (past t)) (requests t.z (Frame p b ∷ past t))
+reply_asked m t p n b k short r h f i =
     let some : first_word b ≢ None = λ q. let bad : Some n ≡ None = sym f ∙ q in absurd cc in
     subst (λ (q : Requests). Asked m.raw (with_reply n k m.live.items) m.last_id m.waiting.items (pend (past t)) q) (sym (frame_makes t.z (past t) p b (asks t.z (is_req_role m t h) (is_raw m t h ∙ r))))
-    (reply_came m.raw m.live.items m.last_id m.waiting.items (pend (past t)) (requests t.z (past t)) t.z (past t) p n b k (is_req_role m t h) (long_frame m t p b h some) f i h.3)
+    (reply_came m.raw m.live.items m.last_id m.waiting.items (pend (past t)) (requests t.z (past t)) t.z (past t) p n b k (is_req_role m t h) (by_rule t.z (past t) p b short ∙ long_frame m t b h some) f i h.3)
 
 pub raw_asked : (m : Machine) (t : Moment) (e : List Entry) → m.raw ≡ true → Ties m t → Asked m.raw m.live.items m.last_id m.waiting.items (pend (past t)) (requests t.z e)
 raw_asked m t e r h = subst (λ (q : Requests). Asked m.raw m.live.items m.last_id m.waiting.items (pend (past t)) q) (raw_same t.z (past t) e (asks_nothing t.z (is_req_role m t h) (is_raw m t h ∙ r))) h.3
 
-pub raw_frame : (m : Machine) (t : Moment) (p : ℕ) (b : List ℕ) (ks : List KeptReply) → m.raw ≡ true → Ties m t → first_word b ≢ None → map item_of ks ≡ map item_of m.kept.items ++ raw_item p b ∷ [] → map item_of ks ≡ pool t.z (Frame p b ∷ past t) 0
-raw_frame m t p b ks r h f e = e ∙ ap (λ (is : List Item). is ++ raw_item p b ∷ []) (h.2 r) ∙ sym (go t.z (is_req_role m t h) (is_raw m t h ∙ r) (long_frame m t p b h f))
+pub raw_frame : (m : Machine) (t : Moment) (p : ℕ) (b : List ℕ) (ks : List KeptReply) → is_too_long (past t) p b ≡ false → m.raw ≡ true → Ties m t → first_word b ≢ None → map item_of ks ≡ map item_of m.kept.items ++ raw_item p b ∷ [] → map item_of ks ≡ pool t.z (Frame p b ∷ past t) 0
+raw_frame m t p b ks short r h f e = e ∙ ap (λ (is : List Item). is ++ raw_item p b ∷ []) (h.2 r) ∙ sym (go t.z (is_req_role m t h) (is_raw m t h ∙ r) (by_rule t.z (past t) p b short ∙ long_frame m t b h f))
   where
     go : (z : Setting) → z.role ≡ role.Req → z.raw ≡ true → malformed z (past t) p b ≡ false → pool z (Frame p b ∷ past t) 0 ≡ pool z (past t) 0 ++ raw_item p b ∷ []
     go z i j k =
@@ -279,15 +280,15 @@ pub raw_short : (m : Machine) (t : Moment) (p : ℕ) (b : List ℕ) → m.raw �
 raw_short m t p b r h e = h.2 r ∙ sym (ap (λ q. cond (not q && cond (has_topics t.z) (has (ctxs (past t)) 0 && is_wanted_by (topics (past t) 0) b) (0 == 0)) (add_for t.z.role t.z (item_in t.z p b) (pool t.z (past t) 0)) (pool t.z (past t) 0)) e)
 
 -- raw, the history that it stands for after a frame
-pub raw_frames : (m n : Machine) (t : Moment) (p : ℕ) (b : List ℕ) (v : Verdict) → m.raw ≡ true → Ties m t → n ≡ record m { kept = n.kept } → KeepsRaw v p b m.kept.items n.kept.items → Frames (Ties n) v t p b
-raw_frames m n t p b verdict.Fine r h s k =
-    (long_frame m t p b h k.0, subst (λ (y : Machine). Ties y (also t (Frame p b))) (sym s) (h.0, h.1, λ q. raw_frame m t p b n.kept.items r h k.0 k.1, raw_asked m t (Frame p b ∷ past t) r h, h.4, h.5))
-raw_frames m n t p b verdict.Malformed r h s k =
-    let bad = short_frame m t p b h k.0 in
-    (bad, subst (λ (y : Machine). Ties y (also t (Frame p b))) (sym s) (h.0, h.1, λ q. ap (map item_of) k.1 ∙ raw_short m t p b r h bad, raw_asked m t (Frame p b ∷ past t) r h, h.4, h.5))
-raw_frames m n t p b verdict.NoMemory r h s k =
-    (long_frame m t p b h k.0, subst (λ (y : Machine). Ties y (also (also t (Frame p b)) (Unkept p))) (sym s) (h.0, h.1, λ q. ap (map item_of) k.1 ∙ h.2 r, raw_asked m t (Unkept p ∷ Frame p b ∷ past t) r h, h.4, h.5))
-raw_frames m n t p b (verdict.Dry c) r h s k = absurd k
+pub raw_frames : (m n : Machine) (t : Moment) (p : ℕ) (b : List ℕ) (v : Verdict) → is_too_long (past t) p b ≡ false → m.raw ≡ true → Ties m t → n ≡ record m { kept = n.kept } → KeepsRaw v p b m.kept.items n.kept.items → Frames (Ties n) v t p b
+raw_frames m n t p b verdict.Fine short r h s k =
+    (long_frame m t b h k.0, subst (λ (y : Machine). Ties y (also t (Frame p b))) (sym s) (h.0, h.1, λ q. raw_frame m t p b n.kept.items short r h k.0 k.1, raw_asked m t (Frame p b ∷ past t) r h, h.4, h.5))
+raw_frames m n t p b verdict.Malformed short r h s k =
+    let bad = short_frame m t b h k.0 in
+    (bad, subst (λ (y : Machine). Ties y (also t (Frame p b))) (sym s) (h.0, h.1, λ q. ap (map item_of) k.1 ∙ raw_short m t p b r h (by_rule t.z (past t) p b short ∙ bad), raw_asked m t (Frame p b ∷ past t) r h, h.4, h.5))
+raw_frames m n t p b verdict.NoMemory short r h s k =
+    (long_frame m t b h k.0, subst (λ (y : Machine). Ties y (also (also t (Frame p b)) (Unkept p))) (sym s) (h.0, h.1, λ q. ap (map item_of) k.1 ∙ h.2 r, raw_asked m t (Unkept p ∷ Frame p b ∷ past t) r h, h.4, h.5))
+raw_frames m n t p b (verdict.Dry c) short r h s k = absurd k
 
 -- ---- A tick, and the close
 

@@ -1,10 +1,12 @@
 -- The laws of a req as a machine.
-use Rattle.std.specs.Prelude.{◌≡◌, true, [], is_some}
+use Rattle.std.specs.Prelude.{◌≡◌, ℕ, List, true, [], is_some}
 use Rattle.std.proofs.Common.{refl, ap, sym}
 use Rattle.sp_history.specs.declared.entry.Entry.{Entry}
+use Rattle.sp_history.specs.declared.entry.Entry.TheVariants.{Frame}
+use Rattle.sp_history.specs.Frames.{is_too_long}
 use Rattle.sp_history.specs.Moments.{Moment, Lawful, past, also, IsSilent}
 use Rattle.sp_proto.specs.Kinds.{Starts, kind_of}
-use Rattle.sp_proto.specs.Readings.{stays, starts}
+use Rattle.sp_proto.specs.Readings.{stays, passes_frame, starts}
 use Rattle.proto_reqrep.specs.declared.req.Asking.{Asking}
 use Rattle.proto_reqrep.specs.declared.req.Request.{Request as Machine}
 use Rattle.proto_reqrep.specs.Reqs.{Ties, Stands, req_kind}
@@ -14,6 +16,9 @@ kinds m t h = h.0.kind
 
 pub silent : (m : Machine) (t : Moment) (e : Entry) → IsSilent e → Lawful (also t e) → Ties m t → Ties m (also t e)
 silent m t e h l k = stays Stands m t e h k
+
+pub passes : (m : Machine) (t : Moment) (p : ℕ) (b : List ℕ) → is_too_long (past t) p b ≡ true → Lawful (also t (Frame p b)) → Ties m t → Ties m (also t (Frame p b))
+passes m t p b h l k = passes_frame Stands m t p b h k
 
 pub anew : (m : Machine) (t : Moment) → past t ≡ [] → Ties m t → Starts Ties m (req_kind m.raw m.options)
 anew m t e h = starts Stands m t (req_kind m.raw m.options) (kinds m t h) e h

@@ -20,6 +20,7 @@ ghost use Rattle.sp_history.specs.Past.{pending, up};
 ghost use Rattle.sp_history.specs.Requests.{wire_of};
 ghost use Rattle.sp_history.specs.Legal.{Calm};
 ghost use Rattle.sp_history.specs.Moments.{Moment, Lawful, past, also, next};
+ghost use Rattle.sp_history.specs.Frames.{is_too_long};
 ghost use Rattle.sp_proto.specs.Machines.{CanAgain, CanDrop, CanGive, CanSend, IsOffered, Frames, NoFlood, Takes, message_of};
 ghost use Rattle.sp_history.specs.Options.{Fits};
 ghost use Rattle.sp_history.specs.Lists.{word, head_of};
@@ -488,6 +489,8 @@ impl Proto for Request {
 
     ghost silent = { laws.silent };
 
+    ghost passes = { laws.passes };
+
     ghost anew = { laws.anew };
 
     fn role(&self) -> Role {
@@ -508,7 +511,7 @@ impl Proto for Request {
     }
 
     fn up(&mut self, p: PipeId) -> Result<(), UpFault>
-        ensures up { OnOk result ((t : Moment) (place : ℕ) (name : WireNumbers) → NoFlood t → Takes (Ties self.old) (Ties self.new) t (entries.Up p place name)) }
+        ensures up { OnOk result ((t : Moment) (place limit : ℕ) (name : WireNumbers) → NoFlood t → Takes (Ties self.old) (Ties self.new) t (entries.Up p place limit name)) }
         ensures alone { OnOk result ((t : Moment) → Lawful t → Ties self.old t → IsTrue (is_pair t.z.role) → up (past t) ≡ []) }
         ensures refused { result ≡ Err UpFault.Refused → (t : Moment) → Lawful t → Ties self.old t → IsTrue (is_pair t.z.role) × (up (past t) ≢ []) }
         ensures same { OnErr result ((t : Moment) → Ties self.old t → Ties self.new t) }
@@ -544,7 +547,7 @@ impl Proto for Request {
     /// A cooked one takes no memory for a frame.
     fn frame(&mut self, p: PipeId, m: Message) -> Verdict
         requires { m.header ≡ [] }
-        ensures kept { (t : Moment) → Lawful (also t (Frame p m.body)) → Ties self.old t → Frames (Ties self.new) result t p m.body }
+        ensures kept { (t : Moment) → is_too_long (past t) p m.body ≡ false → Lawful (also t (Frame p m.body)) → Ties self.old t → Frames (Ties self.new) result t p m.body }
         ensures room { places_left self.old ≤ places_left self.new }
         ensures memory { is_raw self.old ≡ false → result ≢ Verdict.NoMemory }
         ensures roomy { KeepsRoomy self.old self.new }

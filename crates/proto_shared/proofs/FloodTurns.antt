@@ -4,15 +4,16 @@ use Rattle.std.specs.Prelude.{IsTrue}
 use Rattle.turn_lock.specs.declared.turn.Turn.{Turn}
 use Rattle.sp_history.specs.declared.entry.Why.{Why}
 use Rattle.sp_history.specs.declared.entry.Entry.{Entry}
-use Rattle.sp_history.specs.declared.entry.Entry.TheVariants.{Down, Full}
+use Rattle.sp_history.specs.declared.entry.Entry.TheVariants.{Down, Frame, Full}
 use Rattle.sp_history.specs.declared.parts.Begun.{Begun}
 use Rattle.sp_history.specs.declared.setting.Setting.{Setting}
 use Rattle.sp_history.specs.Setting.{floods}
 use Rattle.sp_history.specs.Lists.{head_of}
+use Rattle.sp_history.specs.Frames.{is_too_long}
 use Rattle.sp_history.specs.Past.{pend, up, onto, past_from}
 use Rattle.sp_history.specs.Legal.{is_part_of_send, sending, LegalFrom}
 use Rattle.sp_history.specs.Moments.{Moment, Lawful, past, also, next, IsSilent}
-use Rattle.sp_proto.specs.Readings.{MomentReading, reading, leaves}
+use Rattle.sp_proto.specs.Readings.{MomentReading, reading, leaves, leaves_long_frame}
 use Rattle.proto_shared.specs.Copies.{HasCopies, IsOnlyFlood, HasFlood}
 use Rattle.proto_shared.proofs.Copying.{lawful_before, others, went_down, found_full}
 
@@ -38,12 +39,19 @@ pipe_down n AreOf t p why f h = λ l. still t.z (past t) (Down p why ∷ past t)
 pub pipe_full : (n : ℕ) (AreOf : Begun → Type 0) (t : Moment) (p : ℕ) → floods t.z.role ≡ true → HasFlood t n AreOf → HasFlood (also t (Full p)) n AreOf
 pipe_full n AreOf t p f h = λ l. still t.z (past t) (Full p ∷ past t) n AreOf AreOf (sending (pend (past t))) (found_full t.z (past t) p n f) (λ s e k. k) (h (lawful_before t (Full p) l))
 
--- nor does an entry that no protocol is told, where sends and copies depend only on the reading
+-- nor does an entry that leaves the reading, where sends and copies depend only on it
+as_read : (n : ℕ) (t : Moment) (e : Entry) (AreOf : MomentReading → Begun → Type 0) → reading t ≡ reading (also t e) → is_part_of_send t.z e ≡ false → HasFlood t n (AreOf (reading t)) → HasFlood (also t e) n (AreOf (reading (also t e)))
+as_read n t e AreOf same part k =
+    subst (λ (r : MomentReading). Lawful (also t e) → IsOnlyFlood t.z (e ∷ past t) n (AreOf r) (sending r.pend)) same
+    (λ l. still t.z (past t) (e ∷ past t) n (AreOf (reading t)) (AreOf (reading t)) (sending (pend (past t))) (others t e n l part (sym (ap (λ (r : MomentReading). r.up) same))) (λ s q x. x) (k (lawful_before t e l)))
+
+-- so doesn't one that no protocol is told
 pub silently : (n : ℕ) (t : Moment) (e : Entry) (AreOf : MomentReading → Begun → Type 0) → IsSilent e → HasFlood t n (AreOf (reading t)) → HasFlood (also t e) n (AreOf (reading (also t e)))
-silently n t e AreOf h k =
-    let left = leaves t e h in
-    subst (λ (r : MomentReading). Lawful (also t e) → IsOnlyFlood t.z (e ∷ past t) n (AreOf r) (sending r.pend)) left.0
-    (λ l. still t.z (past t) (e ∷ past t) n (AreOf (reading t)) (AreOf (reading t)) (sending (pend (past t))) (others t e n l left.1 (sym (ap (λ (r : MomentReading). r.up) left.0))) (λ s q x. x) (k (lawful_before t e l)))
+silently n t e AreOf h k = as_read n t e AreOf (leaves t e h).0 (leaves t e h).1 k
+
+-- nor a frame above its pipe's limit
+pub past_frame : (n : ℕ) (t : Moment) (p : ℕ) (b : List ℕ) (AreOf : MomentReading → Begun → Type 0) → is_too_long (past t) p b ≡ true → HasFlood t n (AreOf (reading t)) → HasFlood (also t (Frame p b)) n (AreOf (reading (also t (Frame p b))))
+past_frame n t p b AreOf h k = as_read n t (Frame p b) AreOf (leaves_long_frame t p b h) refl k
 
 -- no such send is pending when a turn begins
 pub turn_begins : (n : ℕ) (AreOf : Begun → Type 0) (t : Moment) (k : ℕ) → Lawful (next t k) → floods t.z.role ≡ true → HasFlood (next t k) n AreOf

@@ -6,3 +6,4 @@ pub mod Places
 pub mod Splits
 pub mod Waiters
 pub mod Firsts
+pub mod Uncounted

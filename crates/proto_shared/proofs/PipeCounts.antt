@@ -96,7 +96,7 @@ abbrev Counted : List Entry → Type 0
 Counted before = AreDistinct (up before) × ((q : ℕ) → ups before + 1 ≤ q → has (up before) q ≡ false)
 
 counted_next : (z : Setting) (k : ℕ) (before : List Entry) (e : Entry) → Counted before → Allowed z k before e → Counted (e ∷ before)
-counted_next z k before (Up p place name) h a = (apart_more (up before) p h.0 (h.1 p (omega (arith, a.itself.0))), λ q l. has_more (up before) p q ∙ neither (has (up before) q) (p == q) (h.1 q (omega (arith, l))) (other q l))
+counted_next z k before (Up p place limit name) h a = (apart_more (up before) p h.0 (h.1 p (omega (arith, a.itself.0))), λ q l. has_more (up before) p q ∙ neither (has (up before) q) (p == q) (h.1 q (omega (arith, l))) (other q l))
   where
     other : (q : ℕ) → ups before + 1 + 1 ≤ q → (p == q) ≡ false
     other q l = let is : p ≡ ups before + 1 = a.itself.0 in grind (arith, nat_tests)
@@ -123,13 +123,13 @@ ups_apart t l = (counted_back t.z t.caller t.before t.turn (subst Counted (sym l
 -- a pipe's number is at least the number of pipes that came up
 up_most : (before : List Entry) → length (up before) ≤ ups before
 up_most [] = omega arith
-up_most (Up p place name ∷ before) = omega (arith, up_most before, one_more (up before) p)
+up_most (Up p place limit name ∷ before) = omega (arith, up_most before, one_more (up before) p)
 up_most (Down p why ∷ before) = omega (arith, up_most before, no_longer (up before) p)
 up_most (_ ∷ before) = up_most before
 
 -- a pipe comes up; the count never overflows
-pub counted_up : (t : Moment) (p place : ℕ) (name : WireNumbers) (n : ℕ) → Lawful (also t (Up p place name)) → n ≡ length (up (past t)) → min (n + 1) (2 ^ 64 - 1) ≡ length (up (past t) ++ p ∷ [])
-counted_up t p place name n l h =
+pub counted_up : (t : Moment) (p place limit : ℕ) (name : WireNumbers) (n : ℕ) → Lawful (also t (Up p place limit name)) → n ≡ length (up (past t)) → min (n + 1) (2 ^ 64 - 1) ≡ length (up (past t) ++ p ∷ [])
+counted_up t p place limit name n l h =
     let next = l.turn.0.itself.0 in
     let small = l.turn.0.itself.2 in
     omega (arith, one_more (up (past t)) p, up_most (past t), next, small, h)

@@ -7,6 +7,7 @@ use Rattle.sp_msg.specs.Views.{MessageView}
 use Rattle.sp_history.specs.declared.parts.Begun.{Begun}
 use Rattle.sp_history.specs.Lists.{head_of, same_op}
 use Rattle.sp_history.specs.Legal.{is_recv}
+use Rattle.sp_history.specs.Sends.{lacks_hops}
 use Rattle.sp_history.specs.Past.{without_begun}
 use Rattle.sp_history.specs.Once.{AreApart}
 use Rattle.sp_proto.specs.Kinds.{act_of}
@@ -19,6 +20,10 @@ begun_of w = record { op = w.op; ctx = w.ctx; act = act_of w.message }
 
 abbrev pub is_for : OpName → Waiting → Bool
 is_for op w = same_op w.op op
+
+-- a send whose header has no hop count to go on with: nng_pair(7)
+abbrev pub is_uncounted : Begun → Bool
+is_uncounted s = lacks_hops s.act
 
 -- without the first of this name
 abbrev pub without_first : OpName → List Waiting → List Waiting

@@ -24,8 +24,9 @@ ghost use Rattle.sp_history.specs.Legal.{is_at, is_recv};
 ghost use Rattle.sp_history.specs.Past.{is_of};
 ghost use Rattle.sp_proto.specs.Kinds.{text_of, entry_act};
 ghost use Rattle.sp_proto.specs.Machines.{message_of};
-ghost use Rattle.proto_shared.specs.Waits.{Holds, Ends, is_for, is_receive, is_send, without_first, first_name, room};
+ghost use Rattle.proto_shared.specs.Waits.{Holds, Ends, begun_of, is_uncounted, is_for, is_receive, is_send, without_first, first_name, room};
 
+use crate::hops::next_hops;
 use sp_base::{Ctx, NoMemory, OpName};
 use sp_msg::Message;
 use sp_proto::Act;
@@ -48,6 +49,25 @@ pub struct Pending {
     receives: VecDeque<Waiting>,
     /// The sends, in the order of their begins.
     sends: VecDeque<Waiting>,
+}
+
+impl Waiting {
+    // Returns whether it is a send whose header has no hop count to go on with.
+    fn is_uncounted(&self) -> bool
+        ensures { result ≡ is_uncounted (begun_of self.now) }
+    {
+        match &self.message {
+            None => false,
+            Some(m) => next_hops(m.header()).is_none(),
+        }
+    }
+}
+
+// The place of the first send without a hop count.
+fn place_of_uncounted(waiting: &VecDeque<Waiting>) -> Option<usize>
+    ensures { result ≡ position (λ w. is_uncounted (begun_of w)) waiting.now.items }
+{
+    waiting.iter().position(|w| w.is_uncounted())
 }
 
 // The place of the operation.
@@ -137,6 +157,16 @@ impl Pending {
         ensures { (ss : List Begun) → Holds self.now ss → result ≡ first_name (filter is_send ss) }
     {
         first_of(&self.sends)
+    }
+
+    /// The first send whose header has no hop count to go on with (nng_pair(7)). Looks at the sends one by one.
+    pub fn first_uncounted(&self) -> Option<OpName>
+        ensures { (ss : List Begun) → Holds self.now ss → result ≡ first_name (filter is_uncounted ss) }
+    {
+        match place_of_uncounted(&self.sends) {
+            None => None,
+            Some(i) => Some(self.sends[i].op),
+        }
     }
 
     /// Ends the receive.

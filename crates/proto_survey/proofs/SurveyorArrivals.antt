@@ -23,7 +23,8 @@ use Rattle.sp_history.specs.declared.parts.Requests.{Requests}
 use Rattle.sp_history.specs.declared.parts.How.TheVariants as how
 use Rattle.sp_history.specs.Lists.{has, first_word, is_number, is_nil, word}
 use Rattle.sp_history.specs.Setting.{has_topics}
-use Rattle.sp_history.specs.Frames.{malformed, malformed_for, plain_item, item_for, item_of as item_in}
+use Rattle.sp_history.proofs.Malformed.{by_rule}
+use Rattle.sp_history.specs.Frames.{breaks_rule, is_too_long, malformed, malformed_for, plain_item, item_for, item_of as item_in}
 use Rattle.sp_history.specs.Past.{pend, ctxs, topics, now}
 use Rattle.sp_history.specs.Kept.{pool, route, add_for, add_item, is_wanted_by}
 use Rattle.sp_history.specs.Requests.{requests, is_on, is_orphan, is_for, has_room, has_id, end_on, begin_on, is_bereft, next_id, next_number, free_from, with_frame, request_of, wire_of}
@@ -225,17 +226,17 @@ long_word b e = go (nat_lt (length b) 4) refl
     go false f = refl
     go true f = absurd (e (ap (λ q. cond q None (Some (from_be_bytes w32 (take 4 b)))) f))
 
-malformed_is : (m : Survey) (t : Moment) (p : ℕ) (b : List ℕ) → Ties m t → malformed t.z (past t) p b ≡ nat_lt (length b) 4
-malformed_is m t p b h = go t.z.role (is_survey m t h)
+malformed_is : (m : Survey) (t : Moment) (b : List ℕ) → Ties m t → breaks_rule t.z b ≡ nat_lt (length b) 4
+malformed_is m t b h = go t.z.role (is_survey m t h)
   where
     go : (r : Role) → r ≡ role.Surveyor → malformed_for r t.z.options.ttl b ≡ nat_lt (length b) 4
     go r e = rw e refl
 
-pub short_frame : (m : Survey) (t : Moment) (p : ℕ) (b : List ℕ) → Ties m t → first_word b ≡ None → malformed t.z (past t) p b ≡ true
-short_frame m t p b h e = malformed_is m t p b h ∙ short_is b e
+pub short_frame : (m : Survey) (t : Moment) (b : List ℕ) → Ties m t → first_word b ≡ None → breaks_rule t.z b ≡ true
+short_frame m t b h e = malformed_is m t b h ∙ short_is b e
 
-pub long_frame : (m : Survey) (t : Moment) (p : ℕ) (b : List ℕ) → Ties m t → first_word b ≢ None → malformed t.z (past t) p b ≡ false
-long_frame m t p b h e = malformed_is m t p b h ∙ long_word b e
+pub long_frame : (m : Survey) (t : Moment) (b : List ℕ) → Ties m t → first_word b ≢ None → breaks_rule t.z b ≡ false
+long_frame m t b h e = malformed_is m t b h ∙ long_word b e
 
 pub some_word : (b : List ℕ) (n : ℕ) → first_word b ≡ Some n → first_word b ≢ None
 some_word b n e q = let bad : Some n ≡ None = sym e ∙ q in cc
@@ -278,10 +279,10 @@ module _ (m : Survey) (t : Moment) (p : ℕ) (b : List ℕ) (h : Ties m t) where
   )
 
   -- raw, the frame is kept
-  pub raw_frame_ties : (n : Survey) → m.raw ≡ true → first_word b ≢ None → n ≡ record m { kept = n.kept } → map item_of n.kept.items ≡ map item_of m.kept.items ++ raw_item p b ∷ [] → Ties n (also t (Frame p b))
-  raw_frame_ties n r f same items =
+  pub raw_frame_ties : (n : Survey) → is_too_long (past t) p b ≡ false → m.raw ≡ true → first_word b ≢ None → n ≡ record m { kept = n.kept } → map item_of n.kept.items ≡ map item_of m.kept.items ++ raw_item p b ∷ [] → Ties n (also t (Frame p b))
+  raw_frame_ties n short r f same items =
       subst (λ (y : Survey). Ties y (also t (Frame p b))) (sym same) (
-        (h.0.0, h.0.1, h.0.2, λ q. items ∙ ap (λ (is : List Item). is ++ raw_item p b ∷ []) (h.0.3 r) ∙ sym (go t.z (is_survey m t h) (is_raw m t h ∙ r) (long_frame m t p b h f)), raw_asked m t m.waiting.items (pend (past t)) frame_past r h h.0.4),
+        (h.0.0, h.0.1, h.0.2, λ q. items ∙ ap (λ (is : List Item). is ++ raw_item p b ∷ []) (h.0.3 r) ∙ sym (go t.z (is_survey m t h) (is_raw m t h ∙ r) (by_rule t.z (past t) p b short ∙ long_frame m t b h f)), raw_asked m t m.waiting.items (pend (past t)) frame_past r h h.0.4),
         frame_floods,
       )
     where
@@ -297,7 +298,7 @@ module _ (m : Survey) (t : Moment) (p : ℕ) (b : List ℕ) (h : Ties m t) where
           no_topics z i = rw i refl
 
   -- cooked, the frame is a response
-  module _ (k : ℕ) (v : MessageView) (r : m.raw ≡ false) (f : first_word b ≡ Some k) (e : v ≡ record { header = []; body = drop 4 b }) where
+  module _ (short : is_too_long (past t) p b ≡ false) (k : ℕ) (v : MessageView) (r : m.raw ≡ false) (f : first_word b ≡ Some k) (e : v ≡ record { header = []; body = drop 4 b }) where
     abbrev reply_to : SurveyView → SurveyView
     reply_to y = cond (y.id == k) (with_reply m.options.queue v y) y
 
@@ -313,7 +314,7 @@ module _ (m : Survey) (t : Moment) (p : ℕ) (b : List ℕ) (h : Ties m t) where
 
         whole : with_frame t.z (past t) p b q ≡ cond ((k == q.id) && nat_lt (length q.replies) m.options.queue) more q
         whole =
-            ap (λ c. cond (not c && is_for b q && has_room t.z q) more q) (long_frame m t p b h (some_word b k f))
+            ap (λ c. cond (not c && is_for b q && has_room t.z q) more q) (by_rule t.z (past t) p b short ∙ long_frame m t b h (some_word b k f))
             ∙ ap (λ o. cond (is_number o q.id && has_room t.z q) more q) f
             ∙ ap (λ c. cond ((k == q.id) && cond c (is_some q.last_out && is_nil q.replies) (nat_lt (length q.replies) t.z.options.queue)) more q) (no_req t.z (is_survey m t h))
             ∙ ap (λ (o : Options). cond ((k == q.id) && nat_lt (length q.replies) o.queue) more q) (is_options m t h)
@@ -356,10 +357,10 @@ trimmed_is old new (Err u) h e f = let long : nat_lt (length old.body) 4 ≡ fal
     short n a b = grind (arith, nat_tests)
 
 -- a raw frame came, with any result
-pub raw_frame_all : (m n : Survey) (t : Moment) (p : ℕ) (b : List ℕ) (r : Verdict) → Ties m t → m.raw ≡ true → (n ≡ record m { kept = n.kept }) × KeepsRaw r p b m.kept.items n.kept.items → Frames (Ties n) r t p b
-raw_frame_all m n t p b verdict.Fine h r k = (long_frame m t p b h k.1.0, raw_frame_ties m t p b h n r k.1.0 k.0 k.1.1)
-raw_frame_all m n t p b verdict.Malformed h r k =
-    let bad = short_frame m t p b h k.1.0 in
-    (bad, same_kept m n (also t (Frame p b)) k.0 k.1.1 (malformed_ties m t p b h bad))
-raw_frame_all m n t p b verdict.NoMemory h r k = (long_frame m t p b h k.1.0, same_kept m n (also (also t (Frame p b)) (Unkept p)) k.0 k.1.1 (unkept_ties m t p b h))
-raw_frame_all m n t p b (verdict.Dry c) h r k = absurd k.1
+pub raw_frame_all : (m n : Survey) (t : Moment) (p : ℕ) (b : List ℕ) (r : Verdict) → is_too_long (past t) p b ≡ false → Ties m t → m.raw ≡ true → (n ≡ record m { kept = n.kept }) × KeepsRaw r p b m.kept.items n.kept.items → Frames (Ties n) r t p b
+raw_frame_all m n t p b verdict.Fine short h r k = (long_frame m t b h k.1.0, raw_frame_ties m t p b h n short r k.1.0 k.0 k.1.1)
+raw_frame_all m n t p b verdict.Malformed short h r k =
+    let bad = short_frame m t b h k.1.0 in
+    (bad, same_kept m n (also t (Frame p b)) k.0 k.1.1 (malformed_ties m t p b h (by_rule t.z (past t) p b short ∙ bad)))
+raw_frame_all m n t p b verdict.NoMemory short h r k = (long_frame m t b h k.1.0, same_kept m n (also (also t (Frame p b)) (Unkept p)) k.0 k.1.1 (unkept_ties m t p b h))
+raw_frame_all m n t p b (verdict.Dry c) short h r k = absurd k.1

@@ -64,11 +64,11 @@ raw_asked m t ws ss b r h a = subst (λ (rs : Requests). Asked m.live.items m.la
 
 -- ---- Pipes
 
-pub up_ties : (m n : Survey) (t : Moment) (p place : ℕ) (name : WireNumbers) → NoFlood t → Lawful (also t (Up p place name)) → Ties m t → n ≡ record m { pipes = min (m.pipes + 1) (2 ^ 64 - 1) } → Ties n (also t (Up p place name))
-up_ties m n t p place name calm l h same =
-    subst (λ (x : Survey). Ties x (also t (Up p place name))) (sym same) (
-      (h.0.0, counted_up t p place name m.pipes l h.0.1, h.0.2, h.0.3, h.0.4),
-      no_flood _ _ (also t (Up p place name)) (calm (it_floods t.z (is_survey m t h))),
+pub up_ties : (m n : Survey) (t : Moment) (p place limit : ℕ) (name : WireNumbers) → NoFlood t → Lawful (also t (Up p place limit name)) → Ties m t → n ≡ record m { pipes = min (m.pipes + 1) (2 ^ 64 - 1) } → Ties n (also t (Up p place limit name))
+up_ties m n t p place limit name calm l h same =
+    subst (λ (x : Survey). Ties x (also t (Up p place limit name))) (sym same) (
+      (h.0.0, counted_up t p place limit name m.pipes l h.0.1, h.0.2, h.0.3, h.0.4),
+      no_flood _ _ (also t (Up p place limit name)) (calm (it_floods t.z (is_survey m t h))),
     )
 
 pub down_ties : (m n : Survey) (t : Moment) (p : ℕ) (why : Why) → Lawful (also t (Down p why)) → Ties m t → n ≡ record m { pipes = m.pipes - 1 } → Ties n (also t (Down p why))

@@ -8,6 +8,7 @@ ghost use Rattle.sp_history.specs.Lists.{head_of, first_word, is_nil};
 ghost use Rattle.sp_history.specs.Requests.{next_number};
 ghost use Rattle.sp_history.specs.Past.{up};
 ghost use Rattle.sp_history.specs.Moments.{Moment, Lawful, past, also};
+ghost use Rattle.sp_history.specs.Frames.{is_too_long};
 ghost use Rattle.sp_history.specs.declared.entry.Entry.TheVariants.{Begin, Frame};
 ghost use Rattle.sp_msg.specs.Views.{wire_text};
 ghost use Rattle.sp_proto.specs.Kinds.{Starts, entry_act};
@@ -399,6 +400,8 @@ impl Proto for Survey {
 
     ghost silent = { laws.silent };
 
+    ghost passes = { laws.passes };
+
     ghost anew = { laws.anew };
 
     fn role(&self) -> Role {
@@ -434,7 +437,7 @@ impl Proto for Survey {
     /// Cooked, it takes memory only for a response to a live survey that keeps fewer than `queue`.
     fn frame(&mut self, p: PipeId, m: Message) -> Verdict
         requires { m.header ≡ [] }
-        ensures kept { (t : Moment) → Lawful (also t (Frame p m.body)) → Ties self.old t → Frames (Ties self.new) result t p m.body }
+        ensures kept { (t : Moment) → is_too_long (past t) p m.body ≡ false → Lawful (also t (Frame p m.body)) → Ties self.old t → Frames (Ties self.new) result t p m.body }
         ensures room { places_left self.old ≤ places_left self.new }
         ensures memory { is_raw self.old ≡ false → result ≡ verdict.NoMemory → Awaits self.old m.body }
     {

@@ -102,9 +102,11 @@ module _ {W : Type 0} (shown : W → WireView) where
     down_is = h.down_is;
     down_wires = λ i d m. let q = h.down_wires i d m in record { agrees = q.agrees; why_is = q.why_is; shows = why_dry t.z c (past t) _ _ _ q.shows };
     in_order = h.in_order;
+    limits = h.limits;
     count_is = h.count_is;
     down_room = h.down_room;
     few = h.few;
+    marks = h.marks;
   }
     where
       why_dry : (z : Setting) (c : ℕ) (before : List Entry) (p : ℕ) (why : Why) (w : WireView) → ShowsWhy z before p why w → ShowsWhy z (Dry c ∷ before) p why w
@@ -122,9 +124,11 @@ module _ {W : Type 0} (shown : W → WireView) where
     down_is = h.down_is;
     down_wires = λ i d m. let q = h.down_wires i d m in record { agrees = q.agrees; why_is = q.why_is; shows = why_unkept t.z p (past t) _ _ _ q.shows };
     in_order = h.in_order;
+    limits = h.limits;
     count_is = h.count_is;
     down_room = h.down_room;
     few = h.few;
+    marks = h.marks;
   }
     where
       why_unkept : (z : Setting) (r : ℕ) (before : List Entry) (p : ℕ) (why : Why) (w : WireView) → ShowsWhy z before p why w → ShowsWhy z (Unkept r ∷ before) p why w
@@ -154,8 +158,8 @@ module _ {W : Type 0} (shown : W → WireView) where
       let x = placed l i p there in
       let w = x.1 in
       let out = subst (λ (y : Why). EmptiesPlace i y l m) e empties in
-      let alike : l.places.items ≡ set l.places.items i (record { id = x.0.id; wire = Some w }) = sym (ap (set l.places.items i) (ap (λ (o : Option W). let y : PipePlace W = record { id = x.0.id; wire = o } in y) (sym x.4) ∙ x.2) ∙ set-get_or l.places.items i x.0) in
-      subst (λ (q : Pipes W). PipesStand shown q (also t (Down p why))) (sym same) (emptied shown l l m t i p x.0 w w why lawful h there x.2 x.4 (λ u. (u.agrees, shows (shown w))) alike refl refl out)
+      let alike : l.places.items ≡ set l.places.items i (record x.0 { wire = Some w }) = sym (ap (set l.places.items i) (ap (λ (o : Option W). let y : PipePlace W = record x.0 { wire = o } in y) (sym x.4) ∙ x.2) ∙ set-get_or l.places.items i x.0) in
+      subst (λ (q : Pipes W). PipesStand shown q (also t (Down p why))) (sym same) (emptied shown l l m t i p x.0 w w why lawful h there x.2 x.4 (λ u. (u.agrees, shows (shown w))) alike refl refl refl out)
 
 pub shows_malformed : (z : Setting) (p : ℕ) (b : List ℕ) (before : List Entry) (w : WireView) → malformed z before p b ≡ true → ShowsWhy z (Frame p b ∷ before) p whys.Malformed w
 shows_malformed z p b before w m = inl (rw (same_number p) m)

@@ -46,9 +46,11 @@ module _ {W : Type 0} (shown : W → WireView) where
         down_is = h.down_is;
         down_wires = λ i d m. let q = h.down_wires i d m in record { agrees = q.agrees; why_is = q.why_is; shows = why_ticked t.z at due (past t) _ _ _ q.shows };
         in_order = h.in_order;
+        limits = h.limits;
         count_is = h.count_is;
         down_room = h.down_room;
         few = h.few;
+        marks = h.marks;
       }
 
 -- ---- The core

@@ -140,9 +140,11 @@ module _ {W : Type 0} (shown : W → WireView) where
         down_is = h.down_is;
         down_wires = λ i d m. let q = h.down_wires i d m in record { agrees = q.agrees; why_is = q.why_is; shows = why_same t.z op ending (past t) _ _ _ q.shows };
         in_order = h.in_order;
+        limits = h.limits;
         count_is = h.count_is;
         down_room = h.down_room;
         few = h.few;
+        marks = h.marks;
       }
 
   pub pipes_begun : (l : Pipes W) (t : Moment) (op : OpName) (k c : ℕ) (act : RecordedAct) (deadline : Option ℕ) → PipesStand shown l t → PipesStand shown l (also t (Begin op k c act deadline))
@@ -153,9 +155,11 @@ module _ {W : Type 0} (shown : W → WireView) where
         down_is = h.down_is;
         down_wires = λ i d m. let q = h.down_wires i d m in record { agrees = q.agrees; why_is = q.why_is; shows = why_begun t.z op k c act deadline (past t) _ _ _ q.shows };
         in_order = h.in_order;
+        limits = h.limits;
         count_is = h.count_is;
         down_room = h.down_room;
         few = h.few;
+        marks = h.marks;
       }
 
 module _ {P W : Type 0} (ties : P → Moment → Type 0) (room : P → ℕ) (shown : W → WireView) where

@@ -106,9 +106,11 @@ module _ {W : Type 0} (shown : W → WireView) where
     down_is = h.down_is;
     down_wires = λ i d m. let q = h.down_wires i d m in record { agrees = q.agrees; why_is = q.why_is; shows = shows_still t.z (past t) (Met place ∷ past t) _ _ _ refl (λ k. k) q.shows };
     in_order = h.in_order;
+    limits = h.limits;
     count_is = h.count_is;
     down_room = h.down_room;
     few = h.few;
+    marks = h.marks;
   }
   pipes_noted l t (NoUp place miss) n h = record {
     up_is = h.up_is;
@@ -116,9 +118,11 @@ module _ {W : Type 0} (shown : W → WireView) where
     down_is = h.down_is;
     down_wires = λ i d m. let q = h.down_wires i d m in record { agrees = q.agrees; why_is = q.why_is; shows = shows_still t.z (past t) (NoUp place miss ∷ past t) _ _ _ refl (λ k. k) q.shows };
     in_order = h.in_order;
+    limits = h.limits;
     count_is = h.count_is;
     down_room = h.down_room;
     few = h.few;
+    marks = h.marks;
   }
   pipes_noted l t _ n h = absurd n
 

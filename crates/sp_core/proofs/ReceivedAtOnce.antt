@@ -130,6 +130,7 @@ has_live z before c r n = go z.role z.raw r n
     go role.Req true h k = absurd cc
     go role.Surveyor true h k = absurd cc
     go role.Pair0 raw h k = absurd cc
+    go role.Pair1 raw h k = absurd cc
     go role.Pub raw h k = absurd cc
     go role.Sub raw h k = absurd cc
     go role.Rep raw h k = absurd cc

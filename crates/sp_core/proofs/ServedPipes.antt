@@ -32,27 +32,27 @@ sweeps_none t l e = subst (λ (x : Moment). SweptTo 0 0 x x) (sym is) (none t.z 
       gives = λ g. g;
     }
 
-same_all : (s t u : Moment) → t ≡ (let y : Moment = record { z = s.z; caller = s.caller; before = s.before; turn = t.turn } in y) → u ≡ (let y : Moment = record { z = t.z; caller = t.caller; before = t.before; turn = u.turn } in y)
+pub same_all : (s t u : Moment) → t ≡ (let y : Moment = record { z = s.z; caller = s.caller; before = s.before; turn = t.turn } in y) → u ≡ (let y : Moment = record { z = t.z; caller = t.caller; before = t.before; turn = u.turn } in y)
     → u ≡ (let y : Moment = record { z = s.z; caller = s.caller; before = s.before; turn = u.turn } in y)
 same_all s t u a b = b ∙ ap (λ (x : Moment). let y : Moment = record { z = x.z; caller = x.caller; before = x.before; turn = u.turn } in y) a
 
-pub few_still : (q : ℕ) (xs ys : List Entry) → AreFew q xs → AreAsMany q xs ys → AreFew q ys
-few_still q xs ys few same = (let a = few.0 in let b = same.0 in omega (arith, a, b), let a = few.1 in let b = same.1 in omega (arith, a, b), let a = few.2 in let b = same.2 in omega (arith, a, b))
+pub few_still : (most q : ℕ) (xs ys : List Entry) → AreFew most q xs → AreAsMany q xs ys → AreFew most q ys
+few_still most q xs ys few same = (let a = few.0 in let b = same.0 in omega (arith, a, b), let a = few.1 in let b = same.1 in omega (arith, a, b), let a = few.2 in let b = same.2 in omega (arith, a, b))
 
-most_still : (p q : ℕ) (t u : Moment) → AreFew q t.turn → AreFew p u.turn → ((p == q) ≡ false → AreAsMany q t.turn u.turn) → AreFew q u.turn
-most_still p q t u was now other = go (p == q) refl
+pub most_still : (most p q : ℕ) (t u : Moment) → AreFew most q t.turn → AreFew most p u.turn → ((p == q) ≡ false → AreAsMany q t.turn u.turn) → AreFew most q u.turn
+most_still most p q t u was now other = go (p == q) refl
   where
-    go : (b : Bool) → (p == q) ≡ b → AreFew q u.turn
-    go true e = subst (λ (x : ℕ). AreFew x u.turn) (equal_numbers p q e) now
-    go false e = few_still q t.turn u.turn was (other e)
+    go : (b : Bool) → (p == q) ≡ b → AreFew most q u.turn
+    go true e = subst (λ (x : ℕ). AreFew most x u.turn) (equal_numbers p q e) now
+    go false e = few_still most q t.turn u.turn was (other e)
 
 -- a pipe that is up after a visit was up before it, and is another one where the visited pipe went down
-up_before : (stays : Bool) (xs : List ℕ) (p q : ℕ) → has (ups_after stays xs p) q ≡ true → (has xs q ≡ true) × ((p == q) ≡ true → stays ≡ true)
+pub up_before : (stays : Bool) (xs : List ℕ) (p q : ℕ) → has (ups_after stays xs p) q ≡ true → (has xs q ≡ true) × ((p == q) ≡ true → stays ≡ true)
 up_before true xs p q h = (h, λ e. refl)
 up_before false xs p q h = let k = without-left xs p q h in (k.0, λ e. absurd cc)
 
 -- the next pipe was served
-pub sweeps_on : (s t u : Moment) (last waiting p : ℕ) (v : Visit) → SweptTo last waiting s t → IsFirstAbove last p (up (past t)) → VisitedTo v p t u → SweptTo p (waiting + v.stalls) s u
+pub sweeps_on : (s t u : Moment) (last waiting p : ℕ) (v : Visit) → SweptTo last waiting s t → IsFirstAbove last p (up (past t)) → VisitedTo 64 v p t u → SweptTo p (waiting + v.stalls) s u
 sweeps_on s t u last waiting p v h next visit = record {
   same = same_all s t u h.same visit.passes.same;
   served = λ q k l. one q (p == q) refl (was q k) l;
@@ -61,7 +61,7 @@ sweeps_on s t u last waiting p v h next visit = record {
   stalls = omega (arith, h.stalls, visit.stalls);
   few = omega (arith, h.few, visit.few, next.above);
   kinds = visit.passes.kinds h.kinds;
-  most = λ q. most_still p q t u (h.most q) visit.most (visit.passes.counts q);
+  most = λ q. most_still 64 p q t u (h.most q) visit.counts (visit.passes.counts q);
   gives = λ g. visit.gives (h.gives g);
 }
   where
@@ -83,8 +83,8 @@ sweeps_on s t u last waiting p v h next visit = record {
         let no : (p == q) ≡ true = subst (λ (y : ℕ). (p == y) ≡ true) same (same_number p) in
         absurd cc
 
-    one : (q : ℕ) (b : Bool) → (p == q) ≡ b → (has (up (past t)) q ≡ true) × ((p == q) ≡ true → v.up ≡ true) → q ≤ p → IsServedIn u q × IsFlushedIn u q
-    one q true e k l = subst (λ (y : ℕ). IsServedIn u y × IsFlushedIn u y) (equal_numbers p q e) (visit.serves (k.1 e))
+    one : (q : ℕ) (b : Bool) → (p == q) ≡ b → (has (up (past t)) q ≡ true) × ((p == q) ≡ true → v.up ≡ true) → q ≤ p → IsServedIn 64 u q × IsFlushedIn u q
+    one q true e k l = subst (λ (y : ℕ). IsServedIn 64 u y × IsFlushedIn u y) (equal_numbers p q e) (visit.serves (k.1 e))
     one q false e k l =
         let done = h.served q k.0 (earlier q e k.0 l (nat_lt last q) refl) in
         (visit.passes.served q e done.0, visit.passes.flushes q done.1)

@@ -27,7 +27,7 @@ use Rattle.turn_lock.specs.Turning.{TakesTurn, HasTurnMore}
 use Rattle.sp_core.specs.Immediate.{ReceivedNow}
 use Rattle.sp_core.specs.Looking.{HasLooked, reads_of}
 use Rattle.sp_core.specs.Parts.{HasWires}
-use Rattle.sp_core.specs.Serving.{IsServeTurn, ServedBy}
+use Rattle.sp_core.specs.Serving.{AreBusyServed, AreOthersLeft, IsServeTurn, ServedBy}
 use Rattle.sp_core.specs.Waiting.{GivesFirst}
 use Rattle.sp_core.specs.Standing.{StandsFor, BeganBy, began, core_setting}
 use Rattle.core_state.specs.Wires.{numbers_of}
@@ -78,14 +78,20 @@ ReceivesNow r k c old new z h t =
     ReceivedNow r z h t k c × HasLooked c (past_of h) t.entries (reads_of old) (reads_of new)
 
 -- the wire has become a pipe, or why not
-abbrev pub AttachesWire : {W : Type 0} → (W → WireView) → Result ℕ (AttachError × W) → W → ℕ → Setting → List (Turn Entry) → Turn Entry → Type 0
-AttachesWire shown r w place z h t = AttachedBy (attached r) z h t place (numbers_of (shown w).name)
+abbrev pub AttachesWire : {W : Type 0} → (W → WireView) → Result ℕ (AttachError × W) → W → ℕ → ℕ → Setting → List (Turn Entry) → Turn Entry → Type 0
+AttachesWire shown r w place limit z h t = AttachedBy (attached r) z h t place limit (numbers_of (shown w).name)
 
 -- each pipe was flushed and swept, no frame came while a receive waited for what a queue kept, and the result has the
 -- counts
 abbrev pub ServesPipes : Served → Setting → List (Turn Entry) → Turn Entry → Type 0
 ServesPipes r z h t =
-    IsSwept z (past_of h) t × AreFlushed (past_of h) t × IsServeTurn t × ServedBy r t × (r.up ≡ length (up (past_of (h ++ t ∷ [])))) × GivesFirst z (past_of h) t
+    IsSwept z (past_of h) t × AreFlushed (past_of h) t × IsServeTurn 64 t × ServedBy r t × (r.up ≡ length (up (past_of (h ++ t ∷ [])))) × GivesFirst z (past_of h) t
+
+-- each pipe that was busy was flushed and then pulled from, at most `most` times with a frame, and no other pipe was; no
+-- frame came while a receive waited for what a queue kept, and the result has the counts
+abbrev pub ServesBusy : ℕ → Served → Setting → List (Turn Entry) → Turn Entry → Type 0
+ServesBusy most r z h t =
+    AreBusyServed most z (past_of h) t × AreOthersLeft (past_of h) t × IsServeTurn most t × ServedBy r t × (r.up ≡ length (up (past_of (h ++ t ∷ [])))) × GivesFirst z (past_of h) t
 
 -- the context was shut, or why not
 abbrev pub ClosesCtx : Result (Unit {0}) CtxError → ℕ → Setting → List (Turn Entry) → Turn Entry → Type 0

@@ -39,13 +39,14 @@ scheme_served (addrs.Ws host port path) x = refl
 scheme_served (addrs.Ipc path) x = refl
 scheme_served (addrs.Inproc name) x = cc
 
-pub arrives_served : {L : Type 0} (o : Origins) (ends : LinkEndsView L) (i : ℕ) (l : Listener) (link : LinkView) (way : Result Way NoMemory) (a b : NetView) → AreOfRun o ends → slice_get ends.listeners i ≡ Some l → IfOk way (λ w. w ≡ serving l.addr) → IsListener a l → IsHandedOut link (get a.listens l.at) a b → Arrives o link way a b
-arrives_served o ends i l link way a b run at is listens handed =
+pub arrives_served : {L : Type 0} (o : Origins) (ends : LinkEndsView L) (i : ℕ) (l : Listener) (link : LinkView) (way : Result Way NoMemory) (max : ℕ) (a b : NetView) → AreOfRun o ends → slice_get ends.listeners i ≡ Some l → max ≡ l.max → IfOk way (λ w. w ≡ serving l.addr) → IsListener a l → IsHandedOut link (get a.listens l.at) a b → Arrives o link way max a b
+arrives_served o ends i l link way max a b run at max_is is listens handed =
     record {
       begins = serving l.addr;
       is = is;
       known = known_served o l.addr (at_of (λ (x : Listener). IsAmong x.addr o.listens) ends.listeners i l run.listens at);
       can = can_serve l.addr;
+      limit = subst (λ (m : ℕ). IsAmong m o.limits) (sym max_is) (at_of (λ (x : Listener). IsAmong x.max o.limits) ends.listeners i l run.listen_limits at);
       handed = subst (λ (s : Option Scheme). IsHandedOut link s a b) (listens.listens ∙ ap Some (sym (scheme_served l.addr listens.linked))) handed;
     }
 
@@ -70,20 +71,21 @@ scheme_asked (addrs.Ws host port path) start x = refl
 scheme_asked (addrs.Ipc path) start x = refl
 scheme_asked (addrs.Inproc name) start x = cc
 
-pub arrives_asked : {L : Type 0} (o : Origins) (ends : LinkEndsView L) (i n : ℕ) (d : Dialer) (link : LinkView) (way : Result Way NoMemory) (a b : NetView) → AreOfRun o ends → slice_get ends.dialers i ≡ Some d → IfOk way (λ w. w ≡ asking d.addr (ends.dice + n)) → is_dialable d.addr ≡ true → IsHandedOut link (Some (scheme_of d.addr)) a b → Arrives o link way a b
-arrives_asked o ends i n d link way a b run at is can handed =
+pub arrives_asked : {L : Type 0} (o : Origins) (ends : LinkEndsView L) (i n : ℕ) (d : Dialer) (link : LinkView) (way : Result Way NoMemory) (max : ℕ) (a b : NetView) → AreOfRun o ends → slice_get ends.dialers i ≡ Some d → max ≡ d.max → IfOk way (λ w. w ≡ asking d.addr (ends.dice + n)) → is_dialable d.addr ≡ true → IsHandedOut link (Some (scheme_of d.addr)) a b → Arrives o link way max a b
+arrives_asked o ends i n d link way max a b run at max_is is can handed =
     record {
       begins = asking d.addr (ends.dice + n);
       is = is;
       known = known_asked o d.addr ends.dice n run.dice (at_of (λ (x : Dialer). IsAmong x.addr o.dials) ends.dialers i d run.dials at);
       can = can_ask d.addr (ends.dice + n) can;
+      limit = subst (λ (m : ℕ). IsAmong m o.limits) (sym max_is) (at_of (λ (x : Dialer). IsAmong x.max o.limits) ends.dialers i d run.dial_limits at);
       handed = subst (λ (s : Scheme). IsHandedOut link (Some s) a b) (sym (scheme_asked d.addr (ends.dice + n) can)) handed;
     }
 
 -- the dialer has tried, and still has this address
-pub arrives_dialed : {L : Type 0} (o : Origins) (ends : LinkEndsView L) (i n : ℕ) (d e : Dialer) (link : LinkView) (way : Result Way NoMemory) (a b : NetView) → AreOfRun o ends → slice_get ends.dialers i ≡ Some e → e.addr ≡ d.addr → IfOk way (λ w. w ≡ asking e.addr (ends.dice + n)) → is_dialable d.addr ≡ true → IsHandedOut link (Some (scheme_of d.addr)) a b → Arrives o link way a b
-arrives_dialed o ends i n d e link way a b run at same is can handed =
-    arrives_asked o ends i n e link way a b run at is (ap is_dialable same ∙ can) (subst (λ (x : Addr). IsHandedOut link (Some (scheme_of x)) a b) (sym same) handed)
+pub arrives_dialed : {L : Type 0} (o : Origins) (ends : LinkEndsView L) (i n : ℕ) (d e : Dialer) (link : LinkView) (way : Result Way NoMemory) (max : ℕ) (a b : NetView) → AreOfRun o ends → slice_get ends.dialers i ≡ Some e → max ≡ e.max → e.addr ≡ d.addr → IfOk way (λ w. w ≡ asking e.addr (ends.dice + n)) → is_dialable d.addr ≡ true → IsHandedOut link (Some (scheme_of d.addr)) a b → Arrives o link way max a b
+arrives_dialed o ends i n d e link way max a b run at max_is same is can handed =
+    arrives_asked o ends i n e link way max a b run at max_is is (ap is_dialable same ∙ can) (subst (λ (x : Addr). IsHandedOut link (Some (scheme_of x)) a b) (sym same) handed)
 
 pub set_at : {X : Type 0} (xs : List X) (i : ℕ) (x : X) → i < length xs → slice_get (set xs i x) i ≡ Some x
 set_at [] i x lt = absurd (omega (arith, lt))

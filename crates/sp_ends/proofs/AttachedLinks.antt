@@ -11,7 +11,7 @@ use Rattle.sp_base.specs.SpStream.{scheme_under}
 use Rattle.sp_base.specs.declared.framing.Framing.{Framing}
 use Rattle.sp_base.specs.declared.framing.Framing.TheVariants as framings
 use Rattle.sp_base.specs.declared.role.Role.{Role}
-use Rattle.sp_base.specs.declared.role.Role.TheVariants.{Pair0, Pub, Sub, Req, Rep, Push, Pull, Surveyor, Respondent, Bus}
+use Rattle.sp_base.specs.declared.role.Role.TheVariants.{Pair0, Pair1, Pub, Sub, Req, Rep, Push, Pull, Surveyor, Respondent, Bus}
 use Rattle.sp_base.specs.declared.addr.Scheme.{Scheme}
 use Rattle.sp_base.specs.declared.addr.Scheme.TheVariants as schemes
 use Rattle.sp_msg.specs.Marks.{wire_view, fresh_marks}
@@ -31,13 +31,12 @@ use Rattle.core_state.specs.declared.causes.AttachError.TheVariants as refused
 use Rattle.sp_socket.specs.Singles.{SingleView, TookOne}
 use Rattle.sp_links.specs.Ways.{peer_number}
 use Rattle.sp_ends.specs.LinkRecords.{lane_place, greeting, WasRefused}
-use Rattle.sp_ends.specs.LinkRecords.{max_body}
 use Rattle.sp_ends.specs.LinkCounts.{greeting_ticks, CanRise}
 use Rattle.sp_links.specs.declared.way.Way.{Way}
 use Rattle.sp_links.specs.declared.way.Way.TheVariants as ways
 use Rattle.sp_links.specs.declared.opening.Opening.{Opening}
 use Rattle.sp_links.specs.Openings.{scheme_for}
-use Rattle.sp_links.specs.Origins.{Origins, IsKnown}
+use Rattle.sp_links.specs.Origins.{Origins, IsAmong, IsKnown}
 use Rattle.sp_links.specs.Going.{IsOpened}
 use Rattle.sp_links.specs.Numbers.{way_number}
 use Rattle.sp_links.specs.Opened.{side_of, renamed, opened_number}
@@ -59,6 +58,7 @@ use Rattle.sp_ends.proofs.Turns.{after_one}
 
 pub small_role : (r : Role) → role_number r < 2 ^ 16
 small_role Pair0 = omega arith
+small_role Pair1 = omega arith
 small_role Pub = omega arith
 small_role Sub = omega arith
 small_role Req = omega arith
@@ -97,21 +97,21 @@ numbers_under o z framings.Tcp own peer a b = (a, b)
 numbers_under o z framings.Ipc own peer a b = (a, b)
 
 -- what a new wire over a link of the run shows
-pub record IsNewShown (o : Origins) (z : Setting) (link : LinkView) (w : WireView) : Type 0 where
+pub record IsNewShown (o : Origins) (z : Setting) (max : ℕ) (link : LinkView) (w : WireView) : Type 0 where
   pub own : Option ℕ
   pub peer : Option ℕ
   pub came : Option (List (List ℕ))
   pub outs : Option (List (List ℕ))
-  pub is : w ≡ wire_view (OverLink link.place max_body (name_number link.scheme) (link.idles + link.stalls) own peer) came outs 0 false fresh_marks
+  pub is : w ≡ wire_view (OverLink link.place max (name_number link.scheme) (link.idles + link.stalls) own peer) came outs 0 false fresh_marks
   pub none_came : IfSome came (λ texts. texts ≡ [])
   pub none_outs : IfSome outs (λ texts. texts ≡ [])
   pub are : AreNumbers o z link.scheme own peer
 
-module _ {L : Type 0} (seen : L → LinkView) (o : Origins) (z : Setting) (n : Opening L) (opened : IsOpened seen n) (run : IsOfRun seen o z n) where
+module _ {L : Type 0} (seen : L → LinkView) (o : Origins) (z : Setting) (n : Opening L) (max : ℕ) (opened : IsOpened seen n) (run : IsOfRun seen o z n) where
   abbrev link : LinkView
   link = seen n.link
 
-  over_web : (way : Way) → n.way ≡ way → scheme_for way ≡ schemes.Ws → (side : Side) (w : EndWire L) → IsNewWsOver side max_body (behind n.used n.came) n.role way link w → IsNewShown o z link (shown w)
+  over_web : (way : Way) → n.way ≡ way → scheme_for way ≡ schemes.Ws → (side : Side) (w : EndWire L) → IsNewWsOver side max (behind n.used n.came) n.role way link w → IsNewShown o z max link (shown w)
   over_web way is web side (wires.Tcp v) x = absurd x
   over_web way is web side (wires.Lane v) x = absurd x
   over_web way is web side (wires.Ws v) (new, role, by, stands) =
@@ -122,17 +122,17 @@ module _ {L : Type 0} (seen : L → LinkView) (o : Origins) (z : Setting) (n : O
         came = Some [];
         outs = Some [];
         is = stands.wire ∙ (ap (λ (r : Role). renamed r v.way v.ws.wire) role ∙ (ap (λ (b : Way). renamed n.role b v.ws.wire) by ∙ (ap (renamed n.role way) new.wire
-            ∙ ap (λ (k : ℕ). wire_view (OverLink link.place max_body k (link.idles + link.stalls) (Some (role_number n.role)) (Some (way_number way))) (Some []) (Some []) 0 false fresh_marks) (ap (λ (s : Scheme). opened_number (scheme_number s)) at_web ∙ ap name_number (sym at_web)))));
+            ∙ ap (λ (k : ℕ). wire_view (OverLink link.place max k (link.idles + link.stalls) (Some (role_number n.role)) (Some (way_number way))) (Some []) (Some []) 0 false fresh_marks) (ap (λ (s : Scheme). opened_number (scheme_number s)) at_web ∙ ap name_number (sym at_web)))));
         none_came = refl;
         none_outs = refl;
         are = subst (λ (s : Scheme). AreNumbers o z s (Some (role_number n.role)) (Some (way_number way))) (sym at_web)
             (ap (λ (r : Role). Some (role_number r)) run.role, (way, refl, web, subst (λ (b : Way). IsKnown o b) is run.known));
       }
 
-  pub new_shows : (w : EndWire L) → IsNewOver seen max_body n w → IsNewShown o z link (shown w)
+  pub new_shows : (w : EndWire L) → IsNewOver seen max n w → IsNewShown o z max link (shown w)
   new_shows w new = go n.way refl w new
     where
-      go : (way : Way) → n.way ≡ way → (w : EndWire L) → IsNewBy (side_of way) max_body (behind n.used n.came) n.role way link w → IsNewShown o z link (shown w)
+      go : (way : Way) → n.way ≡ way → (w : EndWire L) → IsNewBy (side_of way) max (behind n.used n.came) n.role way link w → IsNewShown o z max link (shown w)
       go (ways.Greeting f) is (wires.Ws v) x = absurd x
       go (ways.Greeting f) is (wires.Lane v) x = absurd x
       go (ways.Greeting f) is (wires.Tcp v) x =
@@ -143,7 +143,7 @@ module _ {L : Type 0} (seen : L → LinkView) (o : Origins) (z : Setting) (n : O
             peer = told_number link.came;
             came = none_of link.came;
             outs = none_of link.written;
-            is = x.wire ∙ ap (λ (k : ℕ). wire_view (OverLink link.place max_body k (link.idles + link.stalls) (told_number link.written) (told_number link.came)) (none_of link.came) (none_of link.written) 0 false fresh_marks) (ap scheme_number at ∙ name_under f ∙ ap name_number (sym at));
+            is = x.wire ∙ ap (λ (k : ℕ). wire_view (OverLink link.place max k (link.idles + link.stalls) (told_number link.written) (told_number link.came)) (none_of link.came) (none_of link.written) 0 false fresh_marks) (ap scheme_number at ∙ name_under f ∙ ap name_number (sym at));
             none_came = none_is link.came;
             none_outs = none_is link.written;
             are = subst (λ (s : Scheme). AreNumbers o z s (told_number link.written) (told_number link.came)) (sym at)
@@ -155,15 +155,15 @@ module _ {L : Type 0} (seen : L → LinkView) (o : Origins) (z : Setting) (n : O
       go (ways.Asks addr start) is w x = over_web (ways.Asks addr start) is refl _ w x
 
   -- it runs over this link
-  pub new_link : (w : EndWire L) → IsNewOver seen max_body n w → link_of w ≡ Some link
+  pub new_link : (w : EndWire L) → IsNewOver seen max n w → link_of w ≡ Some link
   new_link w new = go n.way w new
     where
-      web : (way : Way) (side : Side) (w : EndWire L) → IsNewWsOver side max_body (behind n.used n.came) n.role way link w → link_of w ≡ Some link
+      web : (way : Way) (side : Side) (w : EndWire L) → IsNewWsOver side max (behind n.used n.came) n.role way link w → link_of w ≡ Some link
       web way side (wires.Tcp v) x = absurd x
       web way side (wires.Lane v) x = absurd x
       web way side (wires.Ws v) x = ap Some x.0.link_is
 
-      go : (way : Way) (w : EndWire L) → IsNewBy (side_of way) max_body (behind n.used n.came) n.role way link w → link_of w ≡ Some link
+      go : (way : Way) (w : EndWire L) → IsNewBy (side_of way) max (behind n.used n.came) n.role way link w → link_of w ≡ Some link
       go (ways.Greeting f) (wires.Ws v) x = absurd x
       go (ways.Greeting f) (wires.Lane v) x = absurd x
       go (ways.Greeting f) (wires.Tcp v) x = ap Some x.link_is
@@ -171,13 +171,13 @@ module _ {L : Type 0} (seen : L → LinkView) (o : Origins) (z : Setting) (n : O
       go (ways.Asks addr start) w x = web (ways.Asks addr start) _ w x
 
   -- it was not used
-  pub new_unused : (w : EndWire L) → IsNewOver seen max_body n w → IsUnused (shown w)
+  pub new_unused : (w : EndWire L) → IsNewOver seen max n w → IsUnused (shown w)
   new_unused w new =
       let s = new_shows w new in
       subst IsUnused (sym s.is) (record { came = s.none_came; outs = s.none_outs; waits = refl; fulls = refl; idles = refl; stalls = refl; faults = refl; refusals = refl; ended = refl; malformed = refl; is_open = refl })
 
   -- it has a name
-  pub is_named : (past : List Entry) (place : ℕ) (w : EndWire L) → place ≡ link.place → IsNewOver seen max_body n w → (CanRise link.idles → CanRise link.stalls → greeting_ticks past link.place ≤ link.idles + link.stalls + 1) → IsNameOver o z past place (numbers_of (shown w).name)
+  pub is_named : (past : List Entry) (place : ℕ) (w : EndWire L) → place ≡ link.place → IsNewOver seen max n w → (CanRise link.idles → CanRise link.stalls → greeting_ticks past link.place ≤ link.idles + link.stalls + 1) → IsNameOver o z past place max (numbers_of (shown w).name)
   is_named past place w is new asked =
       let s = new_shows w new in
       record {
@@ -185,7 +185,7 @@ module _ {L : Type 0} (seen : L → LinkView) (o : Origins) (z : Setting) (n : O
         spent = link.idles + link.stalls;
         own = s.own;
         peer = s.peer;
-        is = ap (λ (v : WireView). numbers_of v.name) s.is ∙ ap (λ (q : ℕ). numbers_of (OverLink q max_body (name_number link.scheme) (link.idles + link.stalls) s.own s.peer)) (sym is);
+        is = ap (λ (v : WireView). numbers_of v.name) s.is ∙ ap (λ (q : ℕ). numbers_of (OverLink q max (name_number link.scheme) (link.idles + link.stalls) s.own s.peer)) (sym is);
         are = s.are;
         rounds = rises;
       }
@@ -207,9 +207,9 @@ module _ {L : Type 0} (seen : L → LinkView) (start : Beginning) (net : NetView
       let no : true ≡ false = sym on ∙ off in cc
 
   -- it came up
-  pub up_stands : (p place : ℕ) (w : EndWire L) → IsOpened seen n → IsOfRun seen start.origins a.setting n → IsNewOver seen max_body n w → place ≡ over.place → p ≡ ups (past_of a.seen) + 1 → HasFirst (Up p place (record { numbers = numbers_of (shown w).name })) took.turn → HandStands seen a.setting start a.seen net ns k over → LinksStand seen b.setting start b.seen net ns k
-  up_stands p place w opened run new is next first s =
-      after_one says a b took (λ z h. LinksStand seen z start h net ns k) (λ l. hand_up seen a.setting start a.seen ns k net took.turn over p (record { numbers = numbers_of (shown w).name }) s next (inl (apart s, is_named seen start.origins a.setting n opened run (past_of a.seen) over.place w refl new s.hand.asked)) (subst (λ (q : ℕ). HasFirst (Up p q (record { numbers = numbers_of (shown w).name })) took.turn) is first) l)
+  pub up_stands : (max p place : ℕ) (w : EndWire L) → IsOpened seen n → IsOfRun seen start.origins a.setting n → IsAmong max start.origins.limits → IsNewOver seen max n w → place ≡ over.place → p ≡ ups (past_of a.seen) + 1 → HasFirst (Up p place max (record { numbers = numbers_of (shown w).name })) took.turn → HandStands seen a.setting start a.seen net ns k over → LinksStand seen b.setting start b.seen net ns k
+  up_stands max p place w opened run limit new is next first s =
+      after_one says a b took (λ z h. LinksStand seen z start h net ns k) (λ l. hand_up seen a.setting start a.seen ns k net took.turn over p max (record { numbers = numbers_of (shown w).name }) s next (inl (apart s, limit, is_named seen start.origins a.setting n max opened run (past_of a.seen) over.place w refl new s.hand.asked)) (subst (λ (q : ℕ). HasFirst (Up p q max (record { numbers = numbers_of (shown w).name })) took.turn) is first) l)
 
   -- it is still in hand
   pub hand_again : AreSettling took.turn.entries → HandStands seen a.setting start a.seen net ns k over → HandStands seen b.setting start b.seen net ns k over

@@ -8,7 +8,6 @@ use Rattle.sp_history.specs.declared.entry.Entry.TheVariants.{Up}
 use Rattle.sp_history.specs.declared.entry.WireNumbers.{WireNumbers}
 use Rattle.sp_history.specs.declared.setting.Setting.{Setting}
 use Rattle.sp_history.specs.Changes.{none_of}
-use Rattle.sp_history.specs.Lists.{has}
 use Rattle.sp_history.specs.Legal.{AreAllowed}
 use Rattle.sp_history.specs.Past.{onto, past_of, ups}
 use Rattle.sp_history.proofs.Appending.{past_of-append}
@@ -50,7 +49,7 @@ goes_both a b c x y = record {
 }
 
 same_ups : (e : Entry) (past : List Entry) → moves_links e ≡ false → ups (e ∷ past) ≡ ups past
-same_ups (Up p place name) past h = cc
+same_ups (Up p place limit name) past h = cc
 same_ups _ past h = refl
 
 module _ (says : Setting → List (Turn Entry) → Turn Entry → Type 0) (a b : SingleView) (took : TookOne says a b) where
@@ -74,18 +73,18 @@ module _ (says : Setting → List (Turn Entry) → Turn Entry → Type 0) (a b :
       places = λ p place e. ap (λ (x : List Entry). place_of x p) past_now ∙ (entries_leave moves_links (λ (x : List Entry). place_of x p) (same_place p) took.turn.entries (past_of a.seen) none ∙ e);
     }
 
-  module _ (p : ℕ) (name : WireNumbers) (next : p ≡ ups (past_of a.seen) + 1) (first : HasFirst (Up p lane_place name) took.turn) where
+  module _ (p limit : ℕ) (name : WireNumbers) (next : p ≡ ups (past_of a.seen) + 1) (first : HasFirst (Up p lane_place limit name) took.turn) where
     late : none_of moves_links first.late ≡ true
     late = none_sub moves_ends moves_links links_of first.late (settles first.late first.late_settles)
 
-    past_up : past_of b.seen ≡ onto first.late (Up p lane_place name ∷ past_of a.seen)
+    past_up : past_of b.seen ≡ onto first.late (Up p lane_place limit name ∷ past_of a.seen)
     past_up = past_now ∙ ap (λ (es : List Entry). onto es (past_of a.seen)) first.entries
 
     ups_now : ups (past_of b.seen) ≡ ups (past_of a.seen) + 1
-    ups_now = ap ups past_up ∙ entries_leave moves_links ups same_ups first.late (Up p lane_place name ∷ past_of a.seen) late
+    ups_now = ap ups past_up ∙ entries_leave moves_links ups same_ups first.late (Up p lane_place limit name ∷ past_of a.seen) late
 
-    place_now : (q : ℕ) → place_of (past_of b.seen) q ≡ place_of (Up p lane_place name ∷ past_of a.seen) q
-    place_now q = ap (λ (x : List Entry). place_of x q) past_up ∙ entries_leave moves_links (λ (x : List Entry). place_of x q) (same_place q) first.late (Up p lane_place name ∷ past_of a.seen) late
+    place_now : (q : ℕ) → place_of (past_of b.seen) q ≡ place_of (Up p lane_place limit name ∷ past_of a.seen) q
+    place_now q = ap (λ (x : List Entry). place_of x q) past_up ∙ entries_leave moves_links (λ (x : List Entry). place_of x q) (same_place q) first.late (Up p lane_place limit name ∷ past_of a.seen) late
 
     still : (q place : ℕ) → place_of (past_of a.seen) q ≡ Some place → place_of (past_of b.seen) q ≡ Some place
     still q place is = place_now q ∙ go (p == q) refl
@@ -99,9 +98,9 @@ module _ (says : Setting → List (Turn Entry) → Turn Entry → Type 0) (a b :
 
     pub goes_up : GoesOn a b
     goes_up = record {
-      quietly = quiet_one says a b took (first_play (Up p lane_place name) took.turn first refl);
+      quietly = quiet_one says a b took (first_play (Up p lane_place limit name) took.turn first refl);
       sound = λ s. sound_one says a b took;
-      dry = dry_first (Up p lane_place name) says a b took first;
+      dry = dry_first (Up p lane_place limit name) says a b took first;
       begins = (took.turn ∷ [], took.seen);
       ups = omega (arith, ups_now);
       places = still;
@@ -110,7 +109,7 @@ module _ (says : Setting → List (Turn Entry) → Turn Entry → Type 0) (a b :
     pub came_up : CameUp (Some p) a b
     came_up = ((omega (arith, next), place_now p ∙ here), omega (arith, next, ups_now), ups_now)
       where
-        here : place_of (Up p lane_place name ∷ past_of a.seen) p ≡ Some lane_place
+        here : place_of (Up p lane_place limit name ∷ past_of a.seen) p ≡ Some lane_place
         here = rw (eq-eqb p p refl) refl
 
 -- ---- Name dialers that dial

@@ -39,7 +39,7 @@ module _ {A : Type 0} (P Q : A → Type 0) (f : (x : A) → P x → Q x) where
 
 -- what moves no end moves no link
 pub links_of : (e : Entry) → moves_ends e ≡ false → moves_links e ≡ false
-links_of (Up p place name) h = cc
+links_of (Up p place limit name) h = cc
 links_of (Met place) h = cc
 links_of (NoUp place miss) h = cc
 links_of (Taken p) h = cc
@@ -74,7 +74,7 @@ settles (e ∷ entries) h = rw (one e h.0, settles entries h.1) refl
     one (Full p) h = refl
     one (End op ending) h = refl
     one (Dry c) h = refl
-    one (Up p place name) h = elim h [ ]
+    one (Up p place limit name) h = elim h [ ]
     one (Met place) h = elim h [ ]
     one (NoUp place miss) h = elim h [ ]
     one (Taken p) h = elim h [ ]
@@ -87,7 +87,7 @@ module _ {L : Type 0} (seen : L → LinkView) (o : Origins) (z : Setting) (old n
   -- after at most `more` - `less` further ticks
   pub progress_later : (less more : ℕ) → ((place : ℕ) → greeting_ticks new place + less ≤ greeting_ticks old place + more) → (n : Newcomer L) → IsProgressing seen o z old less n → IsProgressing seen o z new more n
   progress_later less more t n p =
-      record { under_way = p.under_way; of_run = p.of_run; met = met (seen n.opening.link).place ∙ p.met; asked = λ i s. let a = p.asked i s in let b = t (seen n.opening.link).place in omega (arith, a, b) }
+      record { under_way = p.under_way; of_run = p.of_run; met = met (seen n.opening.link).place ∙ p.met; limit = p.limit; asked = λ i s. let a = p.asked i s in let b = t (seen n.opening.link).place in omega (arith, a, b) }
 
   module _ (same : (place : ℕ) → greeting_ticks new place ≡ greeting_ticks old place) where
     pub progress_same : (slack : ℕ) (n : Newcomer L) → IsProgressing seen o z old slack n → IsProgressing seen o z new slack n

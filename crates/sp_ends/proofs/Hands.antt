@@ -30,7 +30,7 @@ use Rattle.sp_ends.specs.declared.newcomer.Newcomer.{Newcomer}
 use Rattle.sp_links.specs.declared.way.Way.{Way}
 use Rattle.sp_links.specs.declared.opening.Opening.{Opening}
 use Rattle.sp_links.specs.Openings.{scheme_for}
-use Rattle.sp_links.specs.Origins.{Origins, IsKnown, run_ways}
+use Rattle.sp_links.specs.Origins.{Origins, IsAmong, IsKnown, run_ways}
 use Rattle.sp_links.specs.Going.{IsUnderWay, IsUndone, HasTried, IsLater, HasWaited, IsSame}
 use Rattle.sp_ends.specs.EndViews.{Beginning}
 use Rattle.sp_ends.specs.RunLinks.{IsOfRun, IsProgressing, WasGreeted, AreProgressing, LinksKept, LinksStand, InHand, HandStands, places, in_order, IsNamed, IsCauseOf}
@@ -84,12 +84,12 @@ module _ {L : Type 0} (seen : L → LinkView) where
         }
 
     -- it came up
-    pub hand_up : (net : NetView) (t : Turn Entry) (link : LinkView) (p : ℕ) (name : WireNumbers) → HandStands seen z start h net ns k link → p ≡ ups (past_of h) + 1 → IsNamed start.origins z (past_of h) (Up p link.place name) → HasFirst (Up p link.place name) t → Legal z (h ++ t ∷ []) → LinksStand seen z start (h ++ t ∷ []) net ns k
-    hand_up net t link p name s next named first l =
+    pub hand_up : (net : NetView) (t : Turn Entry) (link : LinkView) (p limit : ℕ) (name : WireNumbers) → HandStands seen z start h net ns k link → p ≡ ups (past_of h) + 1 → IsNamed start.origins z (past_of h) (Up p link.place limit name) → HasFirst (Up p link.place limit name) t → Legal z (h ++ t ∷ []) → LinksStand seen z start (h ++ t ∷ []) net ns k
+    hand_up net t link p limit name s next named first l =
         let waits = hand_waits link s.hand in
         record {
-          kept = kept_up z start net h t p link.place name next waits named first l s.kept;
-          progressing = others_go_on (past_of (h ++ t ∷ [])) (met_after z start net net h t (Up p link.place name) first refl l s.kept) (greeting_ticks_after z start net net h t (Up p link.place name) first refl l s.kept) link s.hand (hand_out start.net.opened net.opened link s.kept.in_place s.hand ∙ sym (greeting_after z start net net h t (Up p link.place name) first refl l s.kept));
+          kept = kept_up z start net h t p link.place limit name next waits named first l s.kept;
+          progressing = others_go_on (past_of (h ++ t ∷ [])) (met_after z start net net h t (Up p link.place limit name) first refl l s.kept) (greeting_ticks_after z start net net h t (Up p link.place limit name) first refl l s.kept) link s.hand (hand_out start.net.opened net.opened link s.kept.in_place s.hand ∙ sym (greeting_after z start net net h t (Up p link.place limit name) first refl l s.kept));
         }
 
     -- it is there after a turn that leaves the ends
@@ -135,8 +135,8 @@ module _ {L : Type 0} (seen : L → LinkView) where
         }
 
     -- it stays in progress, after the others
-    pub stays_behind : (net : NetView) (n m : Newcomer L) → IsLater (seen n.opening.link) (seen m.opening.link) → IsSame n.opening m.opening → m.met ≡ n.met → IsUnderWay seen m.opening → IsUndone seen m.opening → HasTried seen m.opening → HasWaited (seen n.opening.link) (seen m.opening.link) → LinksStand seen z start h net (n ∷ ns) (suc k) → LinksStand seen z start h net (ns ++ m ∷ []) k
-    stays_behind net n m later way met under undone tried waited s =
+    pub stays_behind : (net : NetView) (n m : Newcomer L) → IsLater (seen n.opening.link) (seen m.opening.link) → IsSame n.opening m.opening → m.met ≡ n.met → m.max ≡ n.max → IsUnderWay seen m.opening → IsUndone seen m.opening → HasTried seen m.opening → HasWaited (seen n.opening.link) (seen m.opening.link) → LinksStand seen z start h net (n ∷ ns) (suc k) → LinksStand seen z start h net (ns ++ m ∷ []) k
+    stays_behind net n m later way met max under undone tried waited s =
         let a = s.progressing in
         let p = a.ungreeted.0 in
         let w : k ≤ length ns = let x = a.within in omega (arith, x) in
@@ -164,7 +164,7 @@ module _ {L : Type 0} (seen : L → LinkView) where
             let p = s.progressing.ungreeted.0 in
             record {
               progressing =
-                  record { under_way = under; of_run = of_run_later seen start.origins z n.opening m.opening later way p.of_run; met = ap (λ (x : ℕ). met_at (past_of h) x) later.place ∙ (p.met ∙ ap Some (sym met)); asked = λ i j. asked i j waited };
+                  record { under_way = under; of_run = of_run_later seen start.origins z n.opening m.opening later way p.of_run; met = ap (λ (x : ℕ). met_at (past_of h) x) later.place ∙ (p.met ∙ ap Some (sym met)); limit = subst (λ (x : ℕ). IsAmong x start.origins.limits) (sym max) p.limit; asked = λ i j. asked i j waited };
               undone = undone;
               tried = tried;
             }
@@ -222,6 +222,7 @@ module _ {L : Type 0} (seen : L → LinkView) where
                   under_way = w.progressing.under_way;
                   of_run = w.progressing.of_run;
                   met = met (seen m.opening.link).place ∙ go (link.place == (seen m.opening.link).place) refl;
+                  limit = w.progressing.limit;
                   asked = λ i j. let a = w.progressing.asked i j in let b = ticks (seen m.opening.link).place in omega (arith, a, b);
                 };
             undone = w.undone;
@@ -242,14 +243,14 @@ module _ {L : Type 0} (seen : L → LinkView) where
       met_after z start net net' h t (Met link.place) first refl l k link.place ∙ here
 
   -- the one in hand is the first to be greeted
-  pub hand_first : (z : Setting) (start : Beginning) (net : NetView) (h : List (Turn Entry)) (ns : List (Newcomer L)) (n : Newcomer L) → HandStands seen z start h net ns 0 (seen n.opening.link) → IsUnderWay seen n.opening → IsOfRun seen start.origins z n.opening → met_at (past_of h) (seen n.opening.link).place ≡ Some n.met → LinksStand seen z start h net (n ∷ ns) (suc zero)
-  hand_first z start net h ns n s under run met =
+  pub hand_first : (z : Setting) (start : Beginning) (net : NetView) (h : List (Turn Entry)) (ns : List (Newcomer L)) (n : Newcomer L) → HandStands seen z start h net ns 0 (seen n.opening.link) → IsUnderWay seen n.opening → IsOfRun seen start.origins z n.opening → met_at (past_of h) (seen n.opening.link).place ≡ Some n.met → IsAmong n.max start.origins.limits → LinksStand seen z start h net (n ∷ ns) (suc zero)
+  hand_first z start net h ns n s under run met limit =
       record {
         kept = s.kept;
         progressing =
             record {
               within = omega arith;
-              ungreeted = (record { under_way = under; of_run = run; met = met; asked = s.hand.asked }, tt);
+              ungreeted = (record { under_way = under; of_run = run; met = met; limit = limit; asked = s.hand.asked }, tt);
               rest = s.hand.rest;
               all = map-append (λ (x : Newcomer L). (seen x.opening.link).place) ns (n ∷ []) ∙ s.hand.all;
             };

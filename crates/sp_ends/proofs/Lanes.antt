@@ -14,7 +14,7 @@ use Rattle.sp_history.proofs.Backing.{legal_allowed}
 use Rattle.sp_core.specs.Standing.{HasFirst}
 use Rattle.sp_core.specs.Moving.{AreSettling}
 use Rattle.sp_socket.specs.Singles.{SingleView, TookOne}
-use Rattle.sp_ends.specs.LinkRecords.{lane_place, place_of, met_at, greeting}
+use Rattle.sp_ends.specs.LinkRecords.{lane_place, no_limit, place_of, met_at, greeting}
 use Rattle.sp_ends.specs.LinkCounts.{has_room}
 use Rattle.sp_ends.specs.declared.newcomer.Newcomer.{Newcomer}
 use Rattle.sp_ends.specs.EndViews.{Beginning}
@@ -31,9 +31,9 @@ either : (a b : Bool) → a ≡ true → (a || b) ≡ true
 either true b h = refl
 either false b h = cc
 
-module _ (z : Setting) (start : Beginning) (net : NetView) (h : List (Turn Entry)) (t : Turn Entry) (p : ℕ) (name : WireNumbers) (next : p ≡ ups (past_of h) + 1) (lane : IsLaneName name.numbers) (first : HasFirst (Up p lane_place name) t) (l : Legal z (h ++ t ∷ [])) (k : LinksKept z start h net) where
+module _ (z : Setting) (start : Beginning) (net : NetView) (h : List (Turn Entry)) (t : Turn Entry) (p limit : ℕ) (name : WireNumbers) (next : p ≡ ups (past_of h) + 1) (none : limit ≡ no_limit) (lane : IsLaneName name.numbers) (first : HasFirst (Up p lane_place limit name) t) (l : Legal z (h ++ t ∷ [])) (k : LinksKept z start h net) where
   abbrev more : List Entry
-  more = Up p lane_place name ∷ past_of h
+  more = Up p lane_place limit name ∷ past_of h
 
   off : has (greeting (past_of h)) lane_place ≡ false
   off = no_lane start.net.opened net.opened k.few (past_of h) k.in_place
@@ -63,27 +63,27 @@ module _ (z : Setting) (start : Beginning) (net : NetView) (h : List (Turn Entry
   somewhere q (inr (inl x)) = inr (inl (x.0, place_still x.0 q x.1))
   somewhere q (inr (inr x)) = inr (inr x)
 
-  carried : (q other : ℕ) → place_of more q ≡ Some other → (other ≡ lane_place → ⊥) → IsHeld more q ⊎ IsBackAfter z start net net h t (Up p lane_place name) first refl l k q other
+  carried : (q other : ℕ) → place_of more q ≡ Some other → (other ≡ lane_place → ⊥) → IsHeld more q ⊎ IsBackAfter z start net net h t (Up p lane_place limit name) first refl l k q other
   carried q other is n = go (p == q) refl is
     where
       still : IsHeld (past_of h) q → IsHeld more q
       still (inl x) = inl (grown (up (past_of h)) p q x)
       still (inr x) = inr x
 
-      go : (u : Bool) → (p == q) ≡ u → cond u (Some lane_place) (place_of (past_of h) q) ≡ Some other → IsHeld more q ⊎ IsBackAfter z start net net h t (Up p lane_place name) first refl l k q other
+      go : (u : Bool) → (p == q) ≡ u → cond u (Some lane_place) (place_of (past_of h) q) ≡ Some other → IsHeld more q ⊎ IsBackAfter z start net net h t (Up p lane_place limit name) first refl l k q other
       go true e x = let same : lane_place ≡ other = cc in absurd (n (sym same))
-      go false e x = held_after z start net net h t (Up p lane_place name) first refl l k q other still refl x n
+      go false e x = held_after z start net net h t (Up p lane_place limit name) first refl l k q other still refl x n
 
   kept_lane : LinksKept z start (h ++ t ∷ []) net
   kept_lane =
-      stepped z start net net h t (Up p lane_place name) first refl l k (record {
+      stepped z start net net h t (Up p lane_place limit name) first refl l k (record {
         here = lane_place;
         opened = k.opened;
         more = omega arith;
         few = k.few;
         keeps = either (lane_place == lane_place) (has (greeting (past_of h)) lane_place) (eq-eqb lane_place lane_place refl);
         over = either (lane_place == lane_place) (has (greeting (past_of h)) lane_place) (eq-eqb lane_place lane_place refl);
-        name = inr (refl, lane);
+        name = inr (refl, none, lane);
         cause = tt;
         met = k.met;
         somewhere = λ q a b. somewhere q (k.somewhere q a b);
@@ -98,26 +98,26 @@ module _ (z : Setting) (start : Beginning) (net : NetView) (h : List (Turn Entry
     links_lane s =
         record {
           kept = kept_lane;
-          progressing = are_progressing seen start.origins z (past_of h) (past_of (h ++ t ∷ [])) (met_after z start net net h t (Up p lane_place name) first refl l k) (greeting_ticks_after z start net net h t (Up p lane_place name) first refl l k) slack ns (greeting_after z start net net h t (Up p lane_place name) first refl l k ∙ greeting_same) s.progressing;
+          progressing = are_progressing seen start.origins z (past_of h) (past_of (h ++ t ∷ [])) (met_after z start net net h t (Up p lane_place limit name) first refl l k) (greeting_ticks_after z start net net h t (Up p lane_place limit name) first refl l k) slack ns (greeting_after z start net net h t (Up p lane_place limit name) first refl l k ∙ greeting_same) s.progressing;
         }
 
 -- ---- Over a turn
 
 module _ {L : Type 0} (seen : L → LinkView) (says : Setting → List (Turn Entry) → Turn Entry → Type 0) (a b : SingleView) (took : TookOne says a b) where
   -- a lane came up
-  pub keeps_lane : (p : ℕ) (name : WireNumbers) → p ≡ ups (past_of a.seen) + 1 → IsLaneName name.numbers → HasFirst (Up p lane_place name) took.turn → KeepsLinks seen a b
-  keeps_lane p name next lane first start net ends s =
+  pub keeps_lane : (p limit : ℕ) (name : WireNumbers) → p ≡ ups (past_of a.seen) + 1 → limit ≡ no_limit → IsLaneName name.numbers → HasFirst (Up p lane_place limit name) took.turn → KeepsLinks seen a b
+  keeps_lane p limit name next none lane first start net ends s =
       after_one says a b took (λ z h. EndsStand seen z start h net ends) (λ l. record {
         role = s.role;
-        links = links_lane a.setting start net a.seen took.turn p name next lane first l s.links.kept seen ends.newcomers 0 s.links;
+        links = links_lane a.setting start net a.seen took.turn p limit name next none lane first l s.links.kept seen ends.newcomers 0 s.links;
         asked = asked l;
         of_run = s.of_run;
       })
     where
       asked : Legal a.setting (a.seen ++ took.turn ∷ []) → NetStands start (past_of (a.seen ++ took.turn ∷ [])) (past_of (a.seen ++ took.turn ∷ [])) net ends.listeners ends.dialers
       asked l =
-          let ticks = ticks_after a.setting start net net a.seen took.turn (Up p lane_place name) first refl l s.links.kept in
-          let rooms = where_after a.setting start net net a.seen took.turn (Up p lane_place name) first refl l s.links.kept has_room in
+          let ticks = ticks_after a.setting start net net a.seen took.turn (Up p lane_place limit name) first refl l s.links.kept in
+          let rooms = where_after a.setting start net net a.seen took.turn (Up p lane_place limit name) first refl l s.links.kept has_room in
           net_same start net ends.listeners ends.dialers (past_of a.seen) (past_of a.seen) (past_of (a.seen ++ took.turn ∷ [])) (past_of (a.seen ++ took.turn ∷ [])) ticks rooms ticks s.asked
 
   -- nothing did

@@ -57,7 +57,7 @@ module _ (moves : Entry → Bool) (Fact : List Entry → Type 0) (step : (e : En
 
 -- by the entry a link is handed out, comes up, is missed or is taken
 abbrev pub moves_links : Entry → Bool
-moves_links (Up p place name) = true
+moves_links (Up p place limit name) = true
 moves_links (Met place) = true
 moves_links (NoUp place miss) = true
 moves_links (Taken p) = true
@@ -91,7 +91,7 @@ grown_by : (xs : List ℕ) (q p : ℕ) → (q == p) ≡ true → has (xs ++ q �
 grown_by xs q p h = has_append xs (q ∷ []) p ∙ (rw h (or_true (has xs p)))
 
 pub held_on : (p : ℕ) (e : Entry) (past : List Entry) → moves_links e ≡ false → IsHeld past p → IsHeld (e ∷ past) p
-held_on p (Up q place name) past h x = cc
+held_on p (Up q place limit name) past h x = cc
 held_on p (Taken q) past h x = cc
 held_on p (Down q why) past h (inl x) = go (q == p) refl
   where
@@ -104,7 +104,7 @@ held_on p _ past h x = x
 -- a pipe that came up has one of the numbers so far
 pub numbered : (z : Setting) (past : List Entry) (p place : ℕ) → AreAllowed z past → place_of past p ≡ Some place → p ≤ ups past
 numbered z [] p place a h = cc
-numbered z (Up q other name ∷ past) p place a h = go (q == p) refl h (numbered z past p place a.1)
+numbered z (Up q other limit name ∷ past) p place a h = go (q == p) refl h (numbered z past p place a.1)
   where
     first : q ≡ ups past + 1
     first = a.0.1.itself.0

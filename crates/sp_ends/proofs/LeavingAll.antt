@@ -162,7 +162,7 @@ module _ (first opened : ℕ) (few : first < opened → opened ≤ lane_place) w
       go : (t : Bool) → (other == place) ≡ t → (t || was_missed past place) ≡ true → (was_missed past place ≡ true → is_some (met_at past place) ≡ true) → is_some (met_at past place) ≡ true
       go true e x before = was_met first opened past place (subst (λ (q : ℕ). has (greeting past) q ≡ true) (eqb-true other place e) (left_of _ _ k))
       go false e x before = before x
-  missed_met (Up r other name ∷ past) place k m = missed_met past place (right_of _ _ k) m
+  missed_met (Up r other limit name ∷ past) place k m = missed_met past place (right_of _ _ k) m
   missed_met (_ ∷ past) place k m = missed_met past place k m
 
   -- it isn't that of lanes
@@ -196,7 +196,7 @@ module _ (first opened : ℕ) (few : first < opened → opened ≤ lane_place) w
             λ p up. apart_from on (passed first opened past p place (right_of (has (greeting past) other) (each (keeps_places first opened) past) k) few up),
           )
       go false e x before = let r = before x in (not_without (greeting past) other place r.0, r.1)
-  missed_rests (Up q other name ∷ past) place k o n m =
+  missed_rests (Up q other limit name ∷ past) place k o n m =
       let r = missed_rests past place (right_of _ _ k) (right_of _ _ o) n m in
       (not_without (greeting past) other place r.0, λ p up. go p (q == p) up r.0 r.1)
     where
@@ -211,7 +211,7 @@ module _ (first opened : ℕ) (few : first < opened → opened ≤ lane_place) w
 -- a pipe with a name came up over some link
 pub named_place : (past : List Entry) (p : ℕ) (name : List ℕ) → name_of past p ≡ Some name → (place : ℕ) × (place_of past p ≡ Some place)
 named_place [] p name e = cc
-named_place (Up q other n ∷ past) p name e = go (q == p) e (named_place past p name)
+named_place (Up q other limit n ∷ past) p name e = go (q == p) e (named_place past p name)
   where
     go : (t : Bool) → cond t (Some n.numbers) (name_of past p) ≡ Some name → (name_of past p ≡ Some name → (place : ℕ) × (place_of past p ≡ Some place)) → (place : ℕ) × (cond t (Some other) (place_of past p) ≡ Some place)
     go true x before = (other, refl)

@@ -41,7 +41,7 @@ less_off xs q p h = go (has (without xs q) p) refl
     go true e = let no : true ≡ false = sym (has_before xs q p e) ∙ h in cc
 
 next : (z : Setting) (k p : ℕ) (past more : List Entry) (e : Entry) → StaysCleared p past more → MayCome z k more e → StaysCleared p past (e ∷ more)
-next z k p past more (Up q place name) d a = record { came = let c = d.came in omega (arith, c); off = still_off (up more) q p (unlike (ups more) d.came a.0) d.off; same = d.same }
+next z k p past more (Up q place limit name) d a = record { came = let c = d.came in omega (arith, c); off = still_off (up more) q p (unlike (ups more) d.came a.0) d.off; same = d.same }
   where
     unlike : (m : ℕ) → p ≤ m → q ≡ m + 1 → q ≢ p
     unlike m l e f = absurd (omega (arith, l, e, f))

@@ -1,6 +1,7 @@
 -- What holds of the links of a run once all were given back.
 use Rattle.std.proofs.Common.{◌≡◌, ◌≤◌, ◌<◌, ℕ, Bool, true, false, List, [], ◌∷◌, length, Option, Some, None, refl, sym, ap, subst, ◌∙◌, inl, inr, arith, append-nil, eq-eqb}
-use Rattle.std.specs.Prelude.{⊤, ◌==◌, ◌^◌, ◌⊎◌, ◌||◌, IsTrue, is_some}
+use Rattle.std.specs.Prelude.{⊤, ◌==◌, ◌^◌, ◌⊎◌, ◌||◌, ◌&&◌, not, IsTrue, is_some}
+use Rattle.std.proofs.lemmas.Bool.{ne_eqb}
 use Rattle.std.specs.List.{AllByRecursion}
 use Rattle.std.specs.FinMap.{FinMap, get}
 use Rattle.std.specs.Ordering.{nat_cmp}
@@ -13,7 +14,7 @@ use Rattle.sp_links.specs.declared.wire.EndWire.{EndWire}
 use Rattle.sp_links.specs.EndWires.{shown, link_of}
 use Rattle.sp_links.specs.Origins.{Origins, run_ways}
 use Rattle.sp_history.specs.declared.entry.Entry.{Entry}
-use Rattle.sp_history.specs.declared.entry.Entry.TheVariants.{NoUp}
+use Rattle.sp_history.specs.declared.entry.Entry.TheVariants.{Up, NoUp}
 use Rattle.sp_history.specs.declared.setting.Setting.{Setting}
 use Rattle.sp_history.specs.Found.{ticks}
 use Rattle.sp_history.specs.Legal.{Legal}
@@ -26,11 +27,11 @@ use Rattle.sp_core.specs.Parts.{HasWires}
 use Rattle.core_state.specs.Wires.{IsDownWire}
 use Rattle.sp_ends.specs.Entries.{each}
 use Rattle.sp_ends.specs.LinkRecords.{Records, lane_place, place_of, greeting, Each, HasCause, IsBack, IsUndone, times_out_rightly}
-use Rattle.sp_ends.specs.LinkRecords.{max_body, KeepsOthers, AreWhole}
+use Rattle.sp_ends.specs.LinkRecords.{KeepsOthers, AreWhole, keeps_limits, no_limit}
 use Rattle.sp_ends.specs.LinkCounts.{IsAsked, greeting_ticks}
 use Rattle.sp_ends.specs.declared.newcomer.Newcomer.{Newcomer}
 use Rattle.sp_ends.specs.EndViews.{Beginning, LinkEndsView}
-use Rattle.sp_ends.specs.RunLinks.{places, in_order, WasGreeted, LinksKept, EndsStand, HasCarried, IsShut, IsCarried, IsSomewhere, SameCounts}
+use Rattle.sp_ends.specs.RunLinks.{places, in_order, WasGreeted, LinksKept, EndsStand, HasCarried, IsNamed, IsShut, IsCarried, IsSomewhere, SameCounts}
 use Rattle.sp_ends.specs.LeftLinks.{LinksLeft, ClosedCleared}
 use Rattle.sp_ends.specs.ShutWires.{with_links, with_wires, CanShut, IsBelow, AreHandedOut, shut_link, shut_under}
 use Rattle.sp_ends.proofs.LinkPlaces.{passed, inside, met_inside, up_inside, up_once}
@@ -233,7 +234,23 @@ module _ {L : Type 0} (seen : L → LinkView) (z : Setting) (start : Beginning) 
       or_more false e = e
   missed_still (e ∷ part) same all = (tt, missed_still part same all.1)
 
-  records : IsTrue (each times_out_rightly past) → Records (run_ways z.role start.origins) z max_body start.net.opened net.opened back h
+  limits_kept : (part : List Entry) → Each (IsNamed start.origins z) part → IsTrue (each keeps_limits part)
+  limits_kept [] all = refl
+  limits_kept (Up p place limit name ∷ part) all = both_true (one all.0) (limits_kept part all.1)
+    where
+      both_true : {a b : Bool} → a ≡ true → b ≡ true → (a && b) ≡ true
+      both_true x y = rw (x, y) refl
+
+      true_right : (b : Bool) → (b || true) ≡ true
+      true_right true = refl
+      true_right false = refl
+
+      one : IsNamed start.origins z part (Up p place limit name) → keeps_limits part (Up p place limit name) ≡ true
+      one (inl x) = let off : (place == lane_place) ≡ false = ne_eqb place lane_place x.0 in rw off refl
+      one (inr x) = let on : (limit == no_limit) ≡ true = eq-eqb limit no_limit x.1 in rw on (true_right (not (place == lane_place)))
+  limits_kept (e ∷ part) all = limits_kept part all.1
+
+  records : IsTrue (each times_out_rightly past) → Records (run_ways z.role start.origins) z start.origins.limits start.net.opened net.opened back h
   records due = record {
     places = kept.in_place;
     few = kept.few;
@@ -241,7 +258,8 @@ module _ {L : Type 0} (seen : L → LinkView) (z : Setting) (start : Beginning) 
     given_back = λ place a b. let r = right_at place a b in (r.0, r.1, r.2.0);
     missed = missed_still past missed_at kept.missed;
     left_ = undone_at;
-    came_up = λ p place e n lt. let c = carried_at p place e n in (c.0, c.1, (c.2.opened, record { texts = c.2.carries; went_down = c.2.went_down }));
+    came_up = λ p place e n lt. let c = carried_at p place e n in (c.0, c.1, (c.2.opened, (c.2.max, c.2.limit, c.2.limit_is, record { texts = c.2.carries; went_down = c.2.went_down })));
+    lanes = limits_kept past kept.named;
     due = due;
   }
 

@@ -25,14 +25,14 @@ use Rattle.sp_history.specs.declared.entry.Why.{Why}
 use Rattle.sp_history.specs.declared.entry.Why.TheVariants as whys
 use Rattle.sp_history.specs.declared.setting.Setting.{Setting}
 use Rattle.sp_history.specs.Lists.{has}
-use Rattle.sp_history.specs.Past.{past_of, name_of, frames, outs, quiets, down_for, up_to_most}
+use Rattle.sp_history.specs.Past.{past_of, name_of, limit_of, frames, outs, quiets, down_for, up_to_most}
 use Rattle.sp_history.specs.Found.{ticks}
 use Rattle.core_state.specs.Wires.{IsDownWire, ShowsWhy}
 use Rattle.sp_links.specs.Ways.{peer_number, HasOpened}
 use Rattle.sp_links.specs.declared.way.Way.{Way}
 use Rattle.sp_links.specs.declared.way.Way.TheVariants as ways
 use Rattle.sp_links.specs.Openings.{openings}
-use Rattle.sp_links.specs.Origins.{Origins, run_ways}
+use Rattle.sp_links.specs.Origins.{Origins, IsAmong, run_ways}
 use Rattle.sp_links.specs.Numbers.{way_number}
 use Rattle.sp_links.specs.Opened.{OpenedView, IsOpenedOver, named, opened_number}
 use Rattle.sp_links.specs.EndWires.{shown, link_of, Stands, IsOverLanes}
@@ -40,7 +40,7 @@ use Rattle.sp_links.specs.declared.wire.EndWire.{EndWire}
 use Rattle.sp_links.specs.declared.wire.EndWire.TheVariants as wires
 use Rattle.sp_links.proofs.WayNumbers.{one_way}
 use Rattle.sp_ends.specs.LinkRecords.{lane_place, place_of, greeting, Each, Carries, WentDownFor, IsDrained}
-use Rattle.sp_ends.specs.LinkRecords.{max_body}
+use Rattle.sp_ends.specs.LinkRecords.{no_limit}
 use Rattle.sp_ends.specs.LinkCounts.{greeting_ticks, ticks_where, idle_turns, IsRead}
 use Rattle.sp_ends.specs.RunLinks.{IsNoneOr, AreNumbers, name_number, IsNameOver, IsLaneName, IsNamed, HasCarried, IsAskedIn}
 use Rattle.sp_ends.proofs.LinkPlaces.{passed, Kept, right_of}
@@ -50,10 +50,11 @@ use Rattle.sp_ends.proofs.LaterEntries.{idle_more}
 
 abbrev role_at : ℕ → Role
 role_at n =
-    if n == 16 then roles.Pair0 else if n == 32 then roles.Pub else if n == 33 then roles.Sub else if n == 48 then roles.Req else if n == 49 then roles.Rep else if n == 80 then roles.Push else if n == 81 then roles.Pull else if n == 98 then roles.Surveyor else if n == 99 then roles.Respondent else roles.Bus
+    if n == 16 then roles.Pair0 else if n == 17 then roles.Pair1 else if n == 32 then roles.Pub else if n == 33 then roles.Sub else if n == 48 then roles.Req else if n == 49 then roles.Rep else if n == 80 then roles.Push else if n == 81 then roles.Pull else if n == 98 then roles.Surveyor else if n == 99 then roles.Respondent else roles.Bus
 
 at_number : (r : Role) → role_at (role_number r) ≡ r
 at_number roles.Pair0 = refl
+at_number roles.Pair1 = refl
 at_number roles.Pub = refl
 at_number roles.Sub = refl
 at_number roles.Req = refl
@@ -108,46 +109,55 @@ same_scheme schemes.Ipc schemes.Ipc e = refl
 pub record NamedAt (o : Origins) (z : Setting) (past : List Entry) (p place : ℕ) : Type 0 where
   pub numbers : List ℕ
   pub name : name_of past p ≡ Some numbers
-  pub over : IsNameOver o z past place numbers
+  pub max : ℕ
+  pub limit : limit_of past p ≡ Some max
+  pub limit_is : IsAmong max o.limits
+  pub over : IsNameOver o z past place max numbers
 
 -- the same name, after the same number of ticks
-name_on : (o : Origins) (z : Setting) (a b : List Entry) (place : ℕ) (ns : List ℕ) → greeting_ticks b place ≡ greeting_ticks a place → IsNameOver o z a place ns → IsNameOver o z b place ns
-name_on o z a b place ns same n =
+name_on : (o : Origins) (z : Setting) (a b : List Entry) (place max : ℕ) (ns : List ℕ) → greeting_ticks b place ≡ greeting_ticks a place → IsNameOver o z a place max ns → IsNameOver o z b place max ns
+name_on o z a b place max ns same n =
     record { scheme = n.scheme; spent = n.spent; own = n.own; peer = n.peer; is = n.is; are = n.are; rounds = λ r. let x = n.rounds r in omega (arith, x, same) }
 
--- the pipe came up with this name, over this link or over lanes
+-- a pipe has this name and this limit, over a link or over lanes
+abbrev pub IsSo : Origins → Setting → List Entry → ℕ → ℕ → List ℕ → Type 0
+IsSo o z past place max ns =
+    (place ≡ lane_place → ⊥) × IsAmong max o.limits × IsNameOver o z past place max ns ⊎ (place ≡ lane_place) × (max ≡ no_limit) × IsLaneName ns
+
+-- the pipe came up with this name and this limit, over this link or over lanes
 pub record NamedSo (o : Origins) (z : Setting) (past : List Entry) (p place : ℕ) : Type 0 where
   pub numbers : List ℕ
   pub name : name_of past p ≡ Some numbers
-  pub so : (place ≡ lane_place → ⊥) × IsNameOver o z past place numbers ⊎ (place ≡ lane_place) × IsLaneName numbers
+  pub max : ℕ
+  pub limit : limit_of past p ≡ Some max
+  pub so : IsSo o z past place max numbers
 
 -- after the same number of ticks
-so_on : (o : Origins) (z : Setting) (a b : List Entry) (place : ℕ) (ns : List ℕ) → greeting_ticks b place ≡ greeting_ticks a place → (place ≡ lane_place → ⊥) × IsNameOver o z a place ns ⊎ (place ≡ lane_place) × IsLaneName ns
-    → (place ≡ lane_place → ⊥) × IsNameOver o z b place ns ⊎ (place ≡ lane_place) × IsLaneName ns
-so_on o z a b place ns same (inl n) = inl (n.0, name_on o z a b place ns same n.1)
-so_on o z a b place ns same (inr n) = inr n
+so_on : (o : Origins) (z : Setting) (a b : List Entry) (place max : ℕ) (ns : List ℕ) → greeting_ticks b place ≡ greeting_ticks a place → IsSo o z a place max ns → IsSo o z b place max ns
+so_on o z a b place max ns same (inl n) = inl (n.0, n.1, name_on o z a b place max ns same n.2)
+so_on o z a b place max ns same (inr n) = inr n
 
-so_later : (o : Origins) (z : Setting) (a b : List Entry) (p place : ℕ) → name_of b p ≡ name_of a p → greeting_ticks b place ≡ greeting_ticks a place → NamedSo o z a p place → NamedSo o z b p place
-so_later o z a b p place name same n = record { numbers = n.numbers; name = name ∙ n.name; so = so_on o z a b place n.numbers same n.so }
+so_later : (o : Origins) (z : Setting) (a b : List Entry) (p place : ℕ) → name_of b p ≡ name_of a p → limit_of b p ≡ limit_of a p → greeting_ticks b place ≡ greeting_ticks a place → NamedSo o z a p place → NamedSo o z b p place
+so_later o z a b p place name limit same n = record { numbers = n.numbers; name = name ∙ n.name; max = n.max; limit = limit ∙ n.limit; so = so_on o z a b place n.max n.numbers same n.so }
 
 pub named_so : (o : Origins) (z : Setting) (first opened : ℕ) (past : List Entry) (p place : ℕ) → Kept first opened past → (first < opened → opened ≤ lane_place) → Each (IsNamed o z) past → place_of past p ≡ Some place → NamedSo o z past p place
 named_so o z first opened [] p place kept few all e = cc
-named_so o z first opened (Up q other name ∷ past) p place kept few all e = go (q == p) refl e (named_so o z first opened past p place (right_of _ _ kept) few all.1)
+named_so o z first opened (Up q other limit name ∷ past) p place kept few all e = go (q == p) refl e (named_so o z first opened past p place (right_of _ _ kept) few all.1)
   where
     more : List Entry
-    more = Up q other name ∷ past
+    more = Up q other limit name ∷ past
 
     here : other ≡ place → (q == p) ≡ true → NamedSo o z more p place
-    here same t = record { numbers = name.numbers; name = rw t refl; so = so_on o z past more place name.numbers refl (subst (λ (x : ℕ). (x ≡ lane_place → ⊥) × IsNameOver o z past x name.numbers ⊎ (x ≡ lane_place) × IsLaneName name.numbers) same all.0) }
+    here same t = record { numbers = name.numbers; name = rw t refl; max = limit; limit = rw t refl; so = so_on o z past more place limit name.numbers refl (subst (λ (x : ℕ). IsSo o z past x limit name.numbers) same all.0) }
 
     go : (t : Bool) → (q == p) ≡ t → cond t (Some other) (place_of past p) ≡ Some place → (place_of past p ≡ Some place → NamedSo o z past p place) → NamedSo o z more p place
     go true t is before = here (cc) t
-    go false t is before = so_later o z past more p place (rw t refl) refl (before is)
+    go false t is before = so_later o z past more p place (rw t refl) (rw t refl) refl (before is)
 named_so o z first opened (Tick t due ∷ past) p place kept few all e =
-    let off = passed first opened past p place kept few e in so_later o z past (Tick t due ∷ past) p place refl (rw off refl) (named_so o z first opened past p place kept few all.1 e)
-named_so o z first opened (Met other ∷ past) p place kept few all e = so_later o z past (Met other ∷ past) p place refl refl (named_so o z first opened past p place (right_of _ _ kept) few all.1 e)
-named_so o z first opened (NoUp other miss ∷ past) p place kept few all e = so_later o z past (NoUp other miss ∷ past) p place refl refl (named_so o z first opened past p place (right_of _ _ kept) few all.1 e)
-named_so o z first opened (x ∷ past) p place kept few all e = so_later o z past (x ∷ past) p place refl refl (named_so o z first opened past p place kept few all.1 e)
+    let off = passed first opened past p place kept few e in so_later o z past (Tick t due ∷ past) p place refl refl (rw off refl) (named_so o z first opened past p place kept few all.1 e)
+named_so o z first opened (Met other ∷ past) p place kept few all e = so_later o z past (Met other ∷ past) p place refl refl refl (named_so o z first opened past p place (right_of _ _ kept) few all.1 e)
+named_so o z first opened (NoUp other miss ∷ past) p place kept few all e = so_later o z past (NoUp other miss ∷ past) p place refl refl refl (named_so o z first opened past p place (right_of _ _ kept) few all.1 e)
+named_so o z first opened (x ∷ past) p place kept few all e = so_later o z past (x ∷ past) p place refl refl refl (named_so o z first opened past p place kept few all.1 e)
 
 -- ---- Told texts
 
@@ -203,9 +213,9 @@ some_is : (a b : List ℕ) → Some a ≡ Some b → a ≡ b
 some_is a b h = cc
 
 -- what the name says about the link of a wire over TCP or IPC
-record OverIt (z : Setting) (place spent : ℕ) (v : TcpView) : Type 0 where
+record OverIt (z : Setting) (place max spent : ℕ) (v : TcpView) : Type 0 where
   place_is : v.link.place ≡ place
-  max_is : v.max ≡ max_body
+  max_is : v.max ≡ max
   scheme : v.link.scheme ≡ scheme_under v.framing
   waited : spent ≤ v.link.idles + v.link.stalls
   own : Told v.link.written (λ s. number_in s ≡ role_number z.role)
@@ -221,9 +231,9 @@ not_opened schemes.Ipc e = omega (arith, e)
 framed_under : (v : TcpView) (f : Framing) → v.framing ≡ framing_for v.link.scheme → v.link.scheme ≡ scheme_under f → v.framing ≡ f
 framed_under v f by under = by ∙ ap framing_for under ∙ framing-under f
 
-over_at : (z : Setting) (place spent : ℕ) (f : Framing) (own peer : Option ℕ) (v : TcpView) → IsNoneOr (role_number z.role) own → IsNoneOr (peer_number z.role) peer → numbers_of v.wire.name ≡ numbers_of (OverLink place max_body (scheme_number (scheme_under f)) spent own peer) → Framed v → OverIt z place spent v
-over_at z place spent f own peer v is_own is_peer shown framed =
-    let e : numbers_of (wire_name v.link v.max framed.spent) ≡ numbers_of (OverLink place max_body (scheme_number (scheme_under f)) spent own peer) = ap numbers_of (sym framed.name) ∙ shown in
+over_at : (z : Setting) (place max spent : ℕ) (f : Framing) (own peer : Option ℕ) (v : TcpView) → IsNoneOr (role_number z.role) own → IsNoneOr (peer_number z.role) peer → numbers_of v.wire.name ≡ numbers_of (OverLink place max (scheme_number (scheme_under f)) spent own peer) → Framed v → OverIt z place max spent v
+over_at z place max spent f own peer v is_own is_peer shown framed =
+    let e : numbers_of (wire_name v.link v.max framed.spent) ≡ numbers_of (OverLink place max (scheme_number (scheme_under f)) spent own peer) = ap numbers_of (sym framed.name) ∙ shown in
     let e1 = tails _ _ _ _ e in
     let e2 = tails _ _ _ _ e1 in
     let e3 = tails _ _ _ _ e2 in
@@ -240,13 +250,13 @@ over_at z place spent f own peer v is_own is_peer shown framed =
       peer = number_told (peer_number z.role) v.link.came (subst (λ (n : Option ℕ). IsNoneOr (peer_number z.role) n) (sym ends.1) is_peer);
     }
 
-over_it : (o : Origins) (z : Setting) (place spent : ℕ) (scheme : Scheme) (own peer : Option ℕ) (v : TcpView) → AreNumbers o z scheme own peer → numbers_of v.wire.name ≡ numbers_of (OverLink place max_body (name_number scheme) spent own peer) → Framed v → OverIt z place spent v
-over_it o z place spent schemes.Inproc own peer v are e framed = absurd are
-over_it o z place spent schemes.Ws own peer v are e framed =
-    let all : numbers_of (wire_name v.link v.max framed.spent) ≡ numbers_of (OverLink place max_body (name_number schemes.Ws) spent own peer) = ap numbers_of (sym framed.name) ∙ e in
+over_it : (o : Origins) (z : Setting) (place max spent : ℕ) (scheme : Scheme) (own peer : Option ℕ) (v : TcpView) → AreNumbers o z scheme own peer → numbers_of v.wire.name ≡ numbers_of (OverLink place max (name_number scheme) spent own peer) → Framed v → OverIt z place max spent v
+over_it o z place max spent schemes.Inproc own peer v are e framed = absurd are
+over_it o z place max spent schemes.Ws own peer v are e framed =
+    let all : numbers_of (wire_name v.link v.max framed.spent) ≡ numbers_of (OverLink place max (name_number schemes.Ws) spent own peer) = ap numbers_of (sym framed.name) ∙ e in
     absurd (not_opened v.link.scheme (heads _ _ _ _ (tails _ _ _ _ (tails _ _ _ _ (tails _ _ _ _ all)))))
-over_it o z place spent schemes.Tcp own peer v are shown framed = over_at z place spent framings.Tcp own peer v are.0 are.1 shown framed
-over_it o z place spent schemes.Ipc own peer v are shown framed = over_at z place spent framings.Ipc own peer v are.0 are.1 shown framed
+over_it o z place max spent schemes.Tcp own peer v are shown framed = over_at z place max spent framings.Tcp own peer v are.0 are.1 shown framed
+over_it o z place max spent schemes.Ipc own peer v are shown framed = over_at z place max spent framings.Ipc own peer v are.0 are.1 shown framed
 
 some_holds : (P : List (List ℕ) → Type 0) (o : Option (List (List ℕ))) (x : List (List ℕ)) → o ≡ Some x → IfSome o P → P x
 some_holds P o x e h = subst (λ (q : Option (List (List ℕ))). IfSome q P) e h
@@ -283,7 +293,7 @@ module _ (o : Origins) (z : Setting) (h : List (Turn Entry)) (p place : ℕ) (n 
   past = past_of h
 
   -- the wire, when it is shut, has the name
-  name_is : (v : WireView) → AfterShut w v → numbers_of v.name ≡ numbers_of (OverLink place max_body (name_number n.over.scheme) n.over.spent n.over.own n.over.peer)
+  name_is : (v : WireView) → AfterShut w v → numbers_of v.name ≡ numbers_of (OverLink place n.max (name_number n.over.scheme) n.over.spent n.over.own n.over.peer)
   name_is v after =
       let shown : name_of past p ≡ Some (numbers_of v.name) = down.agrees.name_is ∙ ap (λ (x : WireView). Some (numbers_of x.name)) (sym after) in
       some_is _ _ (sym shown ∙ n.name) ∙ n.over.is
@@ -308,8 +318,8 @@ module _ (o : Origins) (z : Setting) (h : List (Turn Entry)) (p place : ℕ) (n 
   -- ---- Over TCP and IPC
 
   module _ (v : TcpView) (after : AfterShut w v.wire) (framed : Framed v) where
-    over : OverIt z place n.over.spent v
-    over = over_it o z place n.over.spent n.over.scheme n.over.own n.over.peer v n.over.are (name_is v.wire after) framed
+    over : OverIt z place n.max n.over.spent v
+    over = over_it o z place n.max n.over.spent n.over.scheme n.over.own n.over.peer v n.over.are (name_is v.wire after) framed
 
     came_are : IfSome v.wire.came (λ texts. texts ≡ frames past p)
     came_are = subst (λ (c : Option (List (List ℕ))). IfSome c (λ texts. texts ≡ frames past p)) (sym (ap (λ (x : WireView). x.came) after)) down.agrees.came_is
@@ -326,15 +336,15 @@ module _ (o : Origins) (z : Setting) (h : List (Turn Entry)) (p place : ℕ) (n 
     opened : HasOpened (run_ways z.role o) (ways.Greeting v.framing) v.link
     opened = told_so _ _ v.link.came (λ s prefix. told_so (WrittenAs z past p v) _ v.link.written (λ t a. (hello_prefix v.framing (peer_number z.role) (frames past p) s prefix.0 prefix.1, λ owed e. subst (λ (l : List ℕ). IsPrefix l t) (sym e) a.opens)) written) came
 
-    drained : Told v.link.came (λ s. v.wire.came ≡ Some (stream_shows v.framing (number_in s) v.max s)) → IsDrained v.framing z max_body past p v.link
+    drained : Told v.link.came (λ s. v.wire.came ≡ Some (stream_shows v.framing (number_in s) v.max s)) → IsDrained v.framing z n.max past p v.link
     drained all = told_both _ _ _ v.link.came (λ s a b.
         let same = some_holds (λ texts. texts ≡ frames past p) v.wire.came (stream_shows v.framing (number_in s) v.max s) a came_are in
         sym same ∙ ap (λ (k : ℕ). stream_shows v.framing k v.max s) b ∙ ap (λ (m : ℕ). stream_shows v.framing (peer_number z.role) m s) over.max_is) all over.peer
 
-    is_bad : Told v.link.came (λ s. IsStreamBad v.framing (number_in s) v.max s) → Told v.link.came (IsStreamBad v.framing (peer_number z.role) max_body)
+    is_bad : Told v.link.came (λ s. IsStreamBad v.framing (number_in s) v.max s) → Told v.link.came (IsStreamBad v.framing (peer_number z.role) n.max)
     is_bad all = told_both _ _ _ v.link.came (λ s a b. subst (λ (m : ℕ). IsStreamBad v.framing (peer_number z.role) m s) over.max_is (subst (λ (k : ℕ). IsStreamBad v.framing k v.max s) b a)) all over.peer
 
-    went_down_by : (why : Why) → ShowsWhy z past p why w → WentDownFor v.framing z max_body past p why v.link
+    went_down_by : (why : Why) → ShowsWhy z past p why w → WentDownFor v.framing z n.max past p why v.link
     went_down_by whys.Ended s = let f = framed.ended (ap (λ (x : WireView). x.ended) after ∙ s) in (f.0, drained f.1)
     went_down_by whys.Failed s = let same = ap (λ (x : WireView). x.faults) after in omega (arith, s, same, framed.faults)
     went_down_by whys.Malformed (inl s) = inl s
@@ -351,9 +361,12 @@ module _ (o : Origins) (z : Setting) (h : List (Turn Entry)) (p place : ℕ) (n 
       place_is = over.place_is;
       asked = asked_by v.link over.waited;
       carried = record {
+        max = n.max;
+        limit = n.limit;
+        limit_is = n.limit_is;
         opened = (ways.Greeting v.framing, (over.scheme, tt), opened);
         carries = λ f under. subst (λ (k : Framing). Carries k z past p v.link) (framed_under v f framed.framed_by under) (record { came = came; written = told_so _ _ v.link.written (λ s a. a.prefix) written });
-        went_down = λ f under other e. subst (λ (k : Framing). WentDownFor k z max_body past p other v.link) (framed_under v f framed.framed_by under) (subst (λ (y : Why). WentDownFor v.framing z max_body past p y v.link) (why_of other e) (went_down_by why down.shows));
+        went_down = λ f under other e. subst (λ (k : Framing). WentDownFor k z n.max past p other v.link) (framed_under v f framed.framed_by under) (subst (λ (y : Why). WentDownFor v.framing z n.max past p y v.link) (why_of other e) (went_down_by why down.shows));
         read = read_by v.wire v.link after framed.idles;
         whole = λ f under cleared. subst (λ (k : Framing). Told v.link.written (λ t. t ≡ stream_text k (role_number z.role) (outs past p))) (framed_under v f framed.framed_by under) (told_so _ _ v.link.written (λ s a. a.all (ap (λ (x : WireView). x.waits) after ∙ down.agrees.waits_is cleared)) written);
       };
@@ -368,7 +381,7 @@ module _ (o : Origins) (z : Setting) (h : List (Turn Entry)) (p place : ℕ) (n 
     shown_as : numbers_of v.wire.name ≡ numbers_of (OverLink web.place v.ws.max (opened_number (scheme_number web.scheme)) stands.tied.spent (Some (role_number v.role)) (Some (way_number v.way)))
     shown_as = ap (λ (x : WireView). numbers_of x.name) stands.wire ∙ ap (λ (x : WireName). numbers_of (named v.role v.way x)) stands.tied.name
 
-    web_by : (scheme : Scheme) (own peer : Option ℕ) → AreNumbers o z scheme own peer → numbers_of v.wire.name ≡ numbers_of (OverLink place max_body (name_number scheme) n.over.spent own peer) → LeftBy o z h p place web
+    web_by : (scheme : Scheme) (own peer : Option ℕ) → AreNumbers o z scheme own peer → numbers_of v.wire.name ≡ numbers_of (OverLink place n.max (name_number scheme) n.over.spent own peer) → LeftBy o z h p place web
     web_by schemes.Inproc own peer are e = absurd are
     web_by schemes.Tcp own peer are e =
         let k : opened_number (scheme_number web.scheme) ≡ 0 = heads _ _ _ _ (tails _ _ _ _ (tails _ _ _ _ (tails _ _ _ _ (sym shown_as ∙ e)))) in
@@ -391,6 +404,9 @@ module _ (o : Origins) (z : Setting) (h : List (Turn Entry)) (p place : ℕ) (n 
           place_is = heads _ _ _ _ e1;
           asked = asked_by web (let t = stands.tied.waited in omega (arith, spent, t));
           carried = record {
+            max = n.max;
+            limit = n.limit;
+            limit_is = n.limit_is;
             opened = (way, (scheme ∙ sym of_way, known), subst (λ (b : Way). HasOpened (run_ways z.role o) b web) same (subst (λ (r : Role). HasOpened (openings r (λ b. ⊤)) v.way web) role stands.begun));
             carries = λ f under. not_both f scheme under;
             went_down = λ f under. not_both f scheme under;
@@ -443,14 +459,14 @@ module _ (o : Origins) (z : Setting) (h : List (Turn Entry)) (p place : ℕ) (n 
   pub at_link : Stands v → (link : LinkView) → link_of v ≡ Some link → (place ≡ lane_place → ⊥) × NamedAt o z (past_of h) p place
   at_link stands link is = go n.so
     where
-      go : (place ≡ lane_place → ⊥) × IsNameOver o z (past_of h) place n.numbers ⊎ (place ≡ lane_place) × IsLaneName n.numbers → (place ≡ lane_place → ⊥) × NamedAt o z (past_of h) p place
-      go (inl x) = (x.0, record { numbers = n.numbers; name = n.name; over = x.1 })
-      go (inr x) = let a = link_name v stands link is in absurd (omega (arith, heads 0 1 _ _ (sym a.1 ∙ (named_as ∙ x.1.2))))
+      go : IsSo o z (past_of h) place n.max n.numbers → (place ≡ lane_place → ⊥) × NamedAt o z (past_of h) p place
+      go (inl x) = (x.0, record { numbers = n.numbers; name = n.name; max = n.max; limit = n.limit; limit_is = x.1; over = x.2 })
+      go (inr x) = let a = link_name v stands link is in absurd (omega (arith, heads 0 1 _ _ (sym a.1 ∙ (named_as ∙ x.2.2))))
 
   -- over lanes, it is at their place
   pub at_lanes : IsOverLanes v → link_of v ≡ None → place ≡ lane_place
   at_lanes lanes is = go n.so
     where
-      go : (place ≡ lane_place → ⊥) × IsNameOver o z (past_of h) place n.numbers ⊎ (place ≡ lane_place) × IsLaneName n.numbers → place ≡ lane_place
-      go (inl x) = let a = lanes_name v lanes is in absurd (omega (arith, heads 1 0 _ _ (sym a.1 ∙ (named_as ∙ x.1.is))))
+      go : IsSo o z (past_of h) place n.max n.numbers → place ≡ lane_place
+      go (inl x) = let a = lanes_name v lanes is in absurd (omega (arith, heads 1 0 _ _ (sym a.1 ∙ (named_as ∙ x.2.is))))
       go (inr x) = x.0

@@ -124,7 +124,7 @@ module _ (first opened : ℕ) where
       go : (t : Bool) → (other == place) ≡ t → cond t (Some (now past)) (met_at past place) ≡ None → (met_at past place ≡ None → has (greeting past) place ≡ false) → has (greeting past ++ other ∷ []) place ≡ false
       go true e n before = cc
       go false e n before = has_append (greeting past) (other ∷ []) place ∙ neither (has (greeting past) place) ((other == place) || false) (before n) (rw e refl)
-  unmet (Up p other name ∷ past) place h = not_without (greeting past) other place (unmet past place h)
+  unmet (Up p other limit name ∷ past) place h = not_without (greeting past) other place (unmet past place h)
   unmet (NoUp other miss ∷ past) place h = not_without (greeting past) other place (unmet past place h)
   unmet (_ ∷ past) place h = unmet past place h
 
@@ -139,7 +139,7 @@ module _ (first opened : ℕ) where
   pub apart : (past : List Entry) → Kept past → AreDistinct (greeting past)
   apart [] k = tt
   apart (Met place ∷ past) k = distinct_more (greeting past) place (apart past (right_of _ _ k)) (unmet past place (fresh_met past place (left_of _ _ k)))
-  apart (Up p place name ∷ past) k = distinct_without (greeting past) place (apart past (right_of _ _ k))
+  apart (Up p place limit name ∷ past) k = distinct_without (greeting past) place (apart past (right_of _ _ k))
   apart (NoUp place miss ∷ past) k = distinct_without (greeting past) place (apart past (right_of _ _ k))
   apart (_ ∷ past) k = apart past k
 
@@ -157,7 +157,7 @@ module _ (first opened : ℕ) where
       go : (t : Bool) → (other == place) ≡ t → is_some (cond t (Some (now past)) (met_at past place)) ≡ true → (is_some (met_at past place) ≡ true → (first ≤ place) × (place < opened)) → (first ≤ place) × (place < opened)
       go true e n before = let same : other ≡ place = grind (arith, nat_tests) in subst (λ (q : ℕ). (first ≤ q) × (q < opened)) same (below_met past other (left_of _ _ k))
       go false e n before = before n
-  met_inside (Up p other name ∷ past) place k h = met_inside past place (right_of _ _ k) h
+  met_inside (Up p other limit name ∷ past) place k h = met_inside past place (right_of _ _ k) h
   met_inside (NoUp other miss ∷ past) place k h = met_inside past place (right_of _ _ k) h
   met_inside (_ ∷ past) place k h = met_inside past place k h
 
@@ -180,13 +180,13 @@ module _ (first opened : ℕ) where
       go : (t : Bool) → (place ≡ lane_place) ⊎ (is_some (met_at past place) ≡ true) → (place ≡ lane_place) ⊎ (is_some (cond t (Some (now past)) (met_at past place)) ≡ true)
       go true b = inr refl
       go false b = b
-  up_met (Up q other name ∷ past) p place k h = go (q == p) h (left_of _ _ k) (up_met past p place (right_of _ _ k))
+  up_met (Up q other limit name ∷ past) p place k h = go (q == p) h (left_of _ _ k) (up_met past p place (right_of _ _ k))
     where
       either : (t : Bool) → (other == lane_place) ≡ t → (t || has (greeting past) other) ≡ true → (other ≡ lane_place) ⊎ (is_some (met_at past other) ≡ true)
       either true e n = inl (eqb-true other lane_place e)
       either false e n = inr (was_met past other n)
 
-      go : (t : Bool) → cond t (Some other) (place_of past p) ≡ Some place → keeps_places first opened past (Up q other name) ≡ true → (place_of past p ≡ Some place → (place ≡ lane_place) ⊎ (is_some (met_at past place) ≡ true)) → (place ≡ lane_place) ⊎ (is_some (met_at past place) ≡ true)
+      go : (t : Bool) → cond t (Some other) (place_of past p) ≡ Some place → keeps_places first opened past (Up q other limit name) ≡ true → (place_of past p ≡ Some place → (place ≡ lane_place) ⊎ (is_some (met_at past place) ≡ true)) → (place ≡ lane_place) ⊎ (is_some (met_at past place) ≡ true)
       go true e n before = let same : other ≡ place = cc in subst (λ (m : ℕ). (m ≡ lane_place) ⊎ (is_some (met_at past m) ≡ true)) same (either (other == lane_place) refl n)
       go false e n before = before e
   up_met (NoUp other miss ∷ past) p place k h = up_met past p place (right_of _ _ k) h
@@ -207,7 +207,7 @@ module _ (first opened : ℕ) where
       new false e u = e
       new true e (inl lane) = let b = below_met past other there in let same : other ≡ place = eqb-true other place e in let f = few (omega arith) in absurd (omega (arith, lane))
       new true e (inr met) = let same : other ≡ place = eqb-true other place e in let no : met_at past place ≡ None = subst (λ (m : ℕ). met_at past m ≡ None) same none in cc
-  passed (Up q other name ∷ past) p place k few h = go (q == p) h (passed past p place (right_of _ _ k) few)
+  passed (Up q other limit name ∷ past) p place k few h = go (q == p) h (passed past p place (right_of _ _ k) few)
     where
       go : (t : Bool) → cond t (Some other) (place_of past p) ≡ Some place → (place_of past p ≡ Some place → has (greeting past) place ≡ false) → has (without (greeting past) other) place ≡ false
       go true e before = let same : other ≡ place = cc in subst (λ (n : ℕ). has (without (greeting past) other) n ≡ false) same (gone (greeting past) other)
@@ -232,7 +232,7 @@ module _ (first opened : ℕ) where
       go : (t : Bool) → (other == here) ≡ t → cond t (Some (now past)) (met_at past here) ≡ None → (met_at past here ≡ None → Each (IsOther here) past) → Each (IsOther here) past
       go true e n f = cc
       go false e n f = f n
-  unmet_others (Up p other name ∷ past) here k h = (tt, unmet_others past here (right_of _ _ k) h)
+  unmet_others (Up p other limit name ∷ past) here k h = (tt, unmet_others past here (right_of _ _ k) h)
   unmet_others (NoUp other miss ∷ past) here k h = (no_place past other here (left_of _ _ k) (unmet past here h), unmet_others past here (right_of _ _ k) h)
   unmet_others (_ ∷ past) here k h = (tt, unmet_others past here k h)
 
@@ -249,7 +249,7 @@ module _ (first opened : ℕ) where
       go : (t : Bool) → has (greeting past) here ≡ t → has (greeting past ++ other ∷ []) here ≡ (has (greeting past) here || ((other == here) || false)) → (has (greeting past) here ≡ true → Each (IsOther here) past) → Each (IsOther here) past
       go true e a f = f e
       go false e a f = new (other == here) (has (greeting past) here) refl a e
-  others_missed (Up p other name ∷ past) here k h = (tt, others_missed past here (right_of _ _ k) (has_before (greeting past) other here h))
+  others_missed (Up p other limit name ∷ past) here k h = (tt, others_missed past here (right_of _ _ k) (has_before (greeting past) other here h))
   others_missed (NoUp other miss ∷ past) here k h = (apart_from, others_missed past here (right_of _ _ k) (has_before (greeting past) other here h))
     where
       apart_from : other ≡ here → ⊥
@@ -260,7 +260,7 @@ module _ (first opened : ℕ) where
     -- a pipe that isn't over lanes came up over a link of the run
     pub up_inside : (past : List Entry) (p place : ℕ) → Kept past → Over past → place_of past p ≡ Some place → (place ≡ lane_place → ⊥) → (first ≤ place) × (place < opened)
     up_inside [] p place k o h n = cc
-    up_inside (Up q other name ∷ past) p place k o h n = go (q == p) h (up_inside past p place (right_of _ _ k) (right_of _ _ o))
+    up_inside (Up q other limit name ∷ past) p place k o h n = go (q == p) h (up_inside past p place (right_of _ _ k) (right_of _ _ o))
       where
         go : (t : Bool) → cond t (Some other) (place_of past p) ≡ Some place → (place_of past p ≡ Some place → (place ≡ lane_place → ⊥) → (first ≤ place) × (place < opened)) → (first ≤ place) × (place < opened)
         go true e f = let same : other ≡ place = cc in subst (λ (m : ℕ). (first ≤ m) × (m < opened)) same (inside past other (right_of _ _ k) (over_of past other (λ l. n (sym same ∙ l)) (left_of _ _ o)))
@@ -272,7 +272,7 @@ module _ (first opened : ℕ) where
     -- those that were missed are not the one that came up
     pub others_up : (past : List Entry) (p here : ℕ) → Kept past → Over past → place_of past p ≡ Some here → (here ≡ lane_place → ⊥) → Each (IsOther here) past
     others_up [] p here k o h n = tt
-    others_up (Up q other name ∷ past) p here k o h n = (tt, go (q == p) h (others_up past p here (right_of _ _ k) (right_of _ _ o)))
+    others_up (Up q other limit name ∷ past) p here k o h n = (tt, go (q == p) h (others_up past p here (right_of _ _ k) (right_of _ _ o)))
       where
         go : (t : Bool) → cond t (Some other) (place_of past p) ≡ Some here → (place_of past p ≡ Some here → (here ≡ lane_place → ⊥) → Each (IsOther here) past) → Each (IsOther here) past
         go true e f = let same : other ≡ here = cc in others_missed past here (right_of _ _ k) (subst (λ (m : ℕ). has (greeting past) m ≡ true) same (over_of past other (λ l. n (sym same ∙ l)) (left_of _ _ o)))
@@ -284,12 +284,12 @@ module _ (first opened : ℕ) where
     -- one pipe at most comes up over a link
     pub up_once : (past : List Entry) (p q place : ℕ) → Kept past → Over past → place_of past p ≡ Some place → place_of past q ≡ Some place → (place ≡ lane_place → ⊥) → p ≡ q
     up_once [] p q place k o h g n = cc
-    up_once (Up s other name ∷ past) p q place k o h g n = go (s == p) refl (s == q) refl h g (up_once past p q place (right_of _ _ k) (right_of _ _ o))
+    up_once (Up s other limit name ∷ past) p q place k o h g n = go (s == p) refl (s == q) refl h g (up_once past p q place (right_of _ _ k) (right_of _ _ o))
       where
         clash : (r : ℕ) → other ≡ place → place_of past r ≡ Some place → ⊥
         clash r e x =
             let there : has (greeting past) other ≡ true = over_of past other (λ l. n (sym e ∙ l)) (left_of _ _ o) in
-            let no = passed past r place (right_of (keeps_places first opened past (Up s other name)) (each (keeps_places first opened) past) k) few x in no_place past other place there no e
+            let no = passed past r place (right_of (keeps_places first opened past (Up s other limit name)) (each (keeps_places first opened) past) k) few x in no_place past other place there no e
 
         go : (t : Bool) → (s == p) ≡ t → (u : Bool) → (s == q) ≡ u → cond t (Some other) (place_of past p) ≡ Some place → cond u (Some other) (place_of past q) ≡ Some place → (place_of past p ≡ Some place → place_of past q ≡ Some place → (place ≡ lane_place → ⊥) → p ≡ q) → p ≡ q
         go true e true f x y before = sym (eqb-true s p e) ∙ eqb-true s q f

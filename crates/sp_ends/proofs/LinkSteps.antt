@@ -49,7 +49,7 @@ wider first less more l past (Met place) h = go (nat_le first place) (nat_lt pla
     go true true e false n = cc
     go true false e c n = cc
     go false b e c n = cc
-wider first less more l past (Up p place name) h = h
+wider first less more l past (Up p place limit name) h = h
 wider first less more l past (NoUp place miss) h = h
 wider first less more l past _ h = refl
 

@@ -27,7 +27,6 @@ use Rattle.sp_links.specs.Ways.{Ways, peer_number}
 use Rattle.sp_links.specs.Origins.{Origins, run_ways}
 use Rattle.sp_ends.specs.Entries.{each}
 use Rattle.sp_ends.specs.LinkRecords.{place_of, met_at, greeting, keeps_places, Each, HasCause, MissedFor, WasRefused, WentDownFor}
-use Rattle.sp_ends.specs.LinkRecords.{max_body}
 use Rattle.sp_ends.specs.LinkCounts.{greeting_ticks, IsAsked}
 use Rattle.sp_ends.specs.EndViews.{Beginning}
 use Rattle.sp_ends.specs.RunLinks.{is_over_link, IsNamed, HasCarried, IsSomewhere, IsAskedIn, IsCarried, LinksKept}
@@ -38,7 +37,7 @@ use Rattle.sp_ends.proofs.LaterEntries.{past_of_more, NoneIn, turns_leave, turns
 -- ---- What entries leave unchanged
 
 pub same_greeting : (e : Entry) (past : List Entry) → moves_links e ≡ false → greeting (e ∷ past) ≡ greeting past
-same_greeting (Up p place name) past h = cc
+same_greeting (Up p place limit name) past h = cc
 same_greeting (Met place) past h = cc
 same_greeting (NoUp place miss) past h = cc
 same_greeting _ past h = refl
@@ -48,21 +47,21 @@ same_met place (Met other) past h = cc
 same_met place _ past h = refl
 
 pub same_place : (p : ℕ) (e : Entry) (past : List Entry) → moves_links e ≡ false → place_of (e ∷ past) p ≡ place_of past p
-same_place p (Up q place name) past h = cc
+same_place p (Up q place limit name) past h = cc
 same_place p _ past h = refl
 
 pub free_place : (first opened : ℕ) (past : List Entry) (e : Entry) → moves_links e ≡ false → keeps_places first opened past e ≡ true
-free_place first opened past (Up p place name) h = cc
+free_place first opened past (Up p place limit name) h = cc
 free_place first opened past (Met place) h = cc
 free_place first opened past (NoUp place miss) h = cc
 free_place first opened past _ h = refl
 
 pub free_over : (past : List Entry) (e : Entry) → moves_links e ≡ false → is_over_link past e ≡ true
-free_over past (Up p place name) h = cc
+free_over past (Up p place limit name) h = cc
 free_over past _ h = refl
 
 pub free_name : (o : Origins) (z : Setting) (past : List Entry) (e : Entry) → moves_links e ≡ false → IsNamed o z past e
-free_name o z past (Up p place name) h = cc
+free_name o z past (Up p place limit name) h = cc
 free_name o z past _ h = tt
 
 pub free_cause : (ways : Ways) (z : Setting) (h : List (Turn Entry)) (back : FinMap nat_cmp LinkView) (past : List Entry) (e : Entry) → moves_links e ≡ false → HasCause ways z h back past e
@@ -74,7 +73,7 @@ abbrev pub Rests : ℕ → ℕ → List Entry → Type 0
 Rests place n past = (has (greeting past) place ≡ false) × (greeting_ticks past place ≡ n)
 
 pub rests_on : (place n : ℕ) (e : Entry) (past : List Entry) → moves_links e ≡ false → Rests place n past → Rests place n (e ∷ past)
-rests_on place n (Up p other name) past h r = cc
+rests_on place n (Up p other limit name) past h r = cc
 rests_on place n (Met other) past h r = cc
 rests_on place n (NoUp other miss) past h r = cc
 rests_on place n (Tick t due) past h r = (r.0, rw r.0 r.1)
@@ -95,9 +94,12 @@ module _ (z : Setting) (h turns : List (Turn Entry)) where
   pub carried_over : (o : Origins) (p : ℕ) (link : LinkView) → SameOfPipe p (past_of h) (past_of (h ++ turns)) → last_is_malformed z (past_of (h ++ turns)) p ≡ last_is_malformed z (past_of h) p → is_cleared (past_of (h ++ turns)) p ≡ is_cleared (past_of h) p → HasCarried o z h p link → HasCarried o z (h ++ turns) p link
   carried_over o p link s m cl c =
       record {
+        max = c.max;
+        limit = s.limit ∙ c.limit;
+        limit_is = c.limit_is;
         opened = c.opened;
         carries = λ framing under. let k = c.carries framing under in record { came = subst (λ (fs : List (List ℕ)). Told link.came (λ came. IsPrefix (stream_text framing (peer_number z.role) fs) came)) (sym s.frames) k.came; written = subst (λ (os : List (List ℕ)). Told link.written (λ written. IsPrefix written (stream_text framing (role_number z.role) os))) (sym s.outs) k.written };
-        went_down = λ framing under why d. went_down_over framing z max_body (past_of h) (past_of (h ++ turns)) p why link s.frames m (c.went_down framing under why (sym s.cause ∙ d));
+        went_down = λ framing under why d. went_down_over framing z c.max (past_of h) (past_of (h ++ turns)) p why link s.frames m (c.went_down framing under why (sym s.cause ∙ d));
         whole = λ framing under e. subst (λ (os : List (List ℕ)). Told link.written (λ written. written ≡ stream_text framing (role_number z.role) os)) (sym s.outs) (c.whole framing under (sym cl ∙ e));
         read = λ rises. let r = c.read rises in let i = idle_same p h turns s.quiets in let n = ap length s.frames in omega (arith, r, i, n);
       }

@@ -119,43 +119,43 @@ module _ (z : Setting) (start : Beginning) (net net' : NetView) (h : List (Turn 
 
 -- ---- Up
 
-module _ (z : Setting) (start : Beginning) (net : NetView) (h : List (Turn Entry)) (t : Turn Entry) (p place : ℕ) (name : WireNumbers) (next : p ≡ ups (past_of h) + 1) (waits : has (greeting (past_of h)) place ≡ true) (named : IsNamed start.origins z (past_of h) (Up p place name)) (first : HasFirst (Up p place name) t) (l : Legal z (h ++ t ∷ [])) (k : LinksKept z start h net) where
+module _ (z : Setting) (start : Beginning) (net : NetView) (h : List (Turn Entry)) (t : Turn Entry) (p place limit : ℕ) (name : WireNumbers) (next : p ≡ ups (past_of h) + 1) (waits : has (greeting (past_of h)) place ≡ true) (named : IsNamed start.origins z (past_of h) (Up p place limit name)) (first : HasFirst (Up p place limit name) t) (l : Legal z (h ++ t ∷ [])) (k : LinksKept z start h net) where
   not_yet : (q other : ℕ) → place_of (past_of h) q ≡ Some other → (p == q) ≡ true → ⊥
   not_yet q other is e = let n = numbered z (past_of h) q other (legal_allowed z h (legal_rest z h (t ∷ []) l).0) is in let same : p ≡ q = eqb-true p q e in omega (arith, n, same, next)
 
-  place_still : (q other : ℕ) → place_of (past_of h) q ≡ Some other → place_of (Up p place name ∷ past_of h) q ≡ Some other
+  place_still : (q other : ℕ) → place_of (past_of h) q ≡ Some other → place_of (Up p place limit name ∷ past_of h) q ≡ Some other
   place_still q other is = go (p == q) refl
     where
       go : (u : Bool) → (p == q) ≡ u → cond u (Some place) (place_of (past_of h) q) ≡ Some other
       go true e = absurd (not_yet q other is e)
       go false e = is
 
-  up_here : place_of (Up p place name ∷ past_of h) p ≡ Some place
+  up_here : place_of (Up p place limit name ∷ past_of h) p ≡ Some place
   up_here = rw (eq-eqb p p refl) refl
 
-  somewhere_up : (q : ℕ) → IsSomewhere net (past_of h) q → IsSomewhere net (Up p place name ∷ past_of h) q
+  somewhere_up : (q : ℕ) → IsSomewhere net (past_of h) q → IsSomewhere net (Up p place limit name ∷ past_of h) q
   somewhere_up q (inr (inl x)) = inr (inl (x.0, place_still x.0 q x.1))
   somewhere_up q (inr (inr x)) = inr (inr x)
   somewhere_up q (inl g) = go (place == q) refl
     where
-      go : (u : Bool) → (place == q) ≡ u → IsSomewhere net (Up p place name ∷ past_of h) q
-      go true e = let same : place ≡ q = eqb-true place q e in inr (inl (p, subst (λ (m : ℕ). place_of (Up p place name ∷ past_of h) p ≡ Some m) same up_here))
+      go : (u : Bool) → (place == q) ≡ u → IsSomewhere net (Up p place limit name ∷ past_of h) q
+      go true e = let same : place ≡ q = eqb-true place q e in inr (inl (p, subst (λ (m : ℕ). place_of (Up p place limit name ∷ past_of h) p ≡ Some m) same up_here))
       go false e = inl (has_other (greeting (past_of h)) place q e ∙ g)
 
-  carried_up : (q other : ℕ) → place_of (Up p place name ∷ past_of h) q ≡ Some other → (other ≡ lane_place → ⊥) → IsHeld (Up p place name ∷ past_of h) q ⊎ IsBackAfter z start net net h t (Up p place name) first refl l k q other
+  carried_up : (q other : ℕ) → place_of (Up p place limit name ∷ past_of h) q ≡ Some other → (other ≡ lane_place → ⊥) → IsHeld (Up p place limit name ∷ past_of h) q ⊎ IsBackAfter z start net net h t (Up p place limit name) first refl l k q other
   carried_up q other is n = go (p == q) refl is
     where
-      still : IsHeld (past_of h) q → IsHeld (Up p place name ∷ past_of h) q
+      still : IsHeld (past_of h) q → IsHeld (Up p place limit name ∷ past_of h) q
       still (inl x) = inl (grown (up (past_of h)) p q x)
       still (inr x) = inr x
 
-      go : (u : Bool) → (p == q) ≡ u → cond u (Some place) (place_of (past_of h) q) ≡ Some other → IsHeld (Up p place name ∷ past_of h) q ⊎ IsBackAfter z start net net h t (Up p place name) first refl l k q other
+      go : (u : Bool) → (p == q) ≡ u → cond u (Some place) (place_of (past_of h) q) ≡ Some other → IsHeld (Up p place limit name ∷ past_of h) q ⊎ IsBackAfter z start net net h t (Up p place limit name) first refl l k q other
       go true e x = let same : p ≡ q = eqb-true p q e in inl (inl (subst (λ (m : ℕ). has (up (past_of h) ++ p ∷ []) m ≡ true) same (has_at (up (past_of h)) [] p)))
-      go false e x = held_after z start net net h t (Up p place name) first refl l k q other still refl x n
+      go false e x = held_after z start net net h t (Up p place limit name) first refl l k q other still refl x n
 
   pub kept_up : LinksKept z start (h ++ t ∷ []) net
   kept_up =
-      stepped z start net net h t (Up p place name) first refl l k (record {
+      stepped z start net net h t (Up p place limit name) first refl l k (record {
         here = place;
         opened = k.opened;
         more = omega arith;

@@ -1,9 +1,8 @@
 -- What asking listeners and dialing addresses, one after another, leaves.
-use Rattle.std.proofs.Common.{◌≡◌, ◌≤◌, ◌<◌, ◌+◌, ◌*◌, ◌++◌, ◌∷◌, ℕ, zero, suc, Bool, true, false, cond, List, [], length, Some, refl, sym, ap, subst, ◌∙◌, arith, inl, inr, slice_get, get_or, add-one, eqb-true}
-use Rattle.std.specs.Prelude.{◌⊎◌, ◌-◌, min, nat_le, nat_lt}
+use Rattle.std.proofs.Common.{◌≡◌, ◌≤◌, ◌<◌, ◌+◌, ◌*◌, ◌++◌, ◌∷◌, ℕ, zero, suc, Bool, true, false, cond, List, [], length, Some, refl, sym, ap, subst, ◌∙◌, arith, inl, inr, slice_get, add-one, eqb-true}
+use Rattle.std.specs.Prelude.{◌⊎◌, ◌-◌}
 use Rattle.std.specs.List.{AllByRecursion}
 use Rattle.std.specs.FinMap.{get}
-use Rattle.std.proofs.lemmas.Option.{slice_get_read}
 use Rattle.sp_base.specs.Views.{LinkView, NetView}
 use Rattle.sp_history.specs.declared.entry.Entry.{Entry}
 use Rattle.sp_history.specs.declared.entry.Entry.TheVariants.{Tick}

@@ -9,7 +9,7 @@ use Rattle.sp_ends.specs.declared.dialer.Dialer.{Dialer}
 use Rattle.sp_ends.specs.EndViews.{Beginning, LinkEndsView}
 use Rattle.sp_ends.specs.RunLinks.{LinksStand, SameCounts, sum_of, tries_of}
 use Rattle.sp_ends.specs.LinkCounts.{CanRise}
-use Rattle.sp_ends.specs.EndsTurns.{InTurn, SameEnds, AsksNet, HasDialed, DialsOne, addrs_of}
+use Rattle.sp_ends.specs.EndsTurns.{InTurn, SameEnds, AsksNet, HasDialed, DialsOne, targets_of}
 use Rattle.sp_ends.specs.DialerSteps.{IsSameDialer, HasTried, next_after, place_after, IsFree, IsUnderWay}
 use Rattle.sp_base.specs.declared.outside.Linked.{Linked}
 use Rattle.sp_base.specs.declared.outside.Linked.TheVariants as linked
@@ -32,13 +32,13 @@ turned_as seen start ends ends' net s t k same n i = record {
 }
 
 -- the same, except for what dialers know of their links
-pub tried : {L : Type 0} (ends old : LinkEndsView L) (ds : List Dialer) → ends ≡ old → addrs_of ds ≡ addrs_of old.dialers → SameEnds old (record ends { dialers = ds })
+pub tried : {L : Type 0} (ends old : LinkEndsView L) (ds : List Dialer) → ends ≡ old → targets_of ds ≡ targets_of old.dialers → SameEnds old (record ends { dialers = ds })
 tried ends old ds is addrs = record { role = ap (λ (e : LinkEndsView _). e.role) is; dice = ap (λ (e : LinkEndsView _). e.dice) is; listeners = ap (λ (e : LinkEndsView _). e.listeners) is; dials = addrs }
 
 -- the same, except for how many links were asked for
 pub asked_on : {L : Type 0} (old mid new : LinkEndsView L) → SameEnds old mid → new ≡ record mid { asked = new.asked } → SameEnds old new
 asked_on old mid new same is =
-    ends_both old mid new same (record { role = ap (λ (e : LinkEndsView _). e.role) is; dice = ap (λ (e : LinkEndsView _). e.dice) is; listeners = ap (λ (e : LinkEndsView _). e.listeners) is; dials = ap (λ (e : LinkEndsView _). addrs_of e.dialers) is })
+    ends_both old mid new same (record { role = ap (λ (e : LinkEndsView _). e.role) is; dice = ap (λ (e : LinkEndsView _). e.dice) is; listeners = ap (λ (e : LinkEndsView _). e.listeners) is; dials = ap (λ (e : LinkEndsView _). targets_of e.dialers) is })
 
 -- a link was handed out, and no result was then counted
 pub asked_got : (link : LinkView) (wanted : Option Scheme) (a b c : NetView) → IsHandedOut link wanted a b → SameCounts b c → AsksNet a c
@@ -51,7 +51,7 @@ asked_got link wanted a b c handed same =
 dials_set : (t : ℕ) (same : Type 0) (i : ℕ) (ds : List Dialer) (d x : Dialer) → slice_get ds i ≡ Some d → HasDialed t same d x → DialsOne i t same ds (set ds i x)
 dials_set t same i [] d x e h = cc
 dials_set t same zero (y ∷ ds) d x e h = let is : y ≡ d = cc in (subst (λ (q : Dialer). HasDialed t same q x) (sym is) h, same_dialers ds)
-dials_set t same (suc i) (y ∷ ds) d x e h = (record { addr = refl; tries = refl; free = λ _. refl }, dials_set t same i ds d x e h)
+dials_set t same (suc i) (y ∷ ds) d x e h = (record { addr = refl; max = refl; tries = refl; free = λ _. refl }, dials_set t same i ds d x e h)
 
 -- no link was handed out
 pub tried_free : {L : Type 0} (seen : L → LinkView) (said : Linked L) (t : ℕ) (old new : Dialer) → HasTried (next_after said t) (place_after seen said) old new → place_after seen said ≡ None → IsFree t new ⊎ IsUnderWay t new
@@ -82,11 +82,12 @@ asked_none seen said scheme a b h none =
 -- the dialer at this place of the list has tried
 pub dialed_at : {L : Type 0} (seen : L → LinkView) (said : Linked L) (t : ℕ) (same : Type 0) (i : ℕ) (xs ds : List Dialer) (old new : Dialer) → xs ≡ ds → i < length ds → old ≡ get_or xs i old → HasTried (next_after said t) (place_after seen said) old new → (same → place_after seen said ≡ None) → DialsOne i t same ds (set xs i new)
 dialed_at seen said t same i xs ds old new e lt at d none =
-    subst (λ ys. DialsOne i t same ds (set ys i new)) (sym e) (dials_set t same i ds old new (at_index xs ds i old e lt at) (record { addr = d.addr; tries = d.tries; next = λ m. tried_free seen said t old new d (none m) }))
+    subst (λ ys. DialsOne i t same ds (set ys i new)) (sym e) (dials_set t same i ds old new (at_index xs ds i old e lt at) (record { addr = d.addr; max = d.max; tries = d.tries; next = λ m. tried_free seen said t old new d (none m) }))
 
 dial_then : (t : ℕ) (same same' : Type 0) (d e f : Dialer) → (same' → same) → HasDialed t same d e → IsSameDialer e f → HasDialed t same' d f
 dial_then t same same' d e f m h s = record {
   addr = s.addr ∙ h.addr;
+  max = s.max ∙ h.max;
   tries = s.tries ∙ h.tries;
   next = λ x. go (h.next (m x));
 }

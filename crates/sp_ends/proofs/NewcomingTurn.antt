@@ -14,7 +14,7 @@ use Rattle.sp_ends.specs.LinkRecords.{has_dry_miss}
 use Rattle.sp_ends.specs.declared.newcomer.Newcomer.{Newcomer}
 use Rattle.sp_links.specs.declared.way.Way.{Way}
 use Rattle.sp_links.specs.Openings.{scheme_for}
-use Rattle.sp_links.specs.Origins.{IsKnown}
+use Rattle.sp_links.specs.Origins.{IsAmong, IsKnown}
 use Rattle.sp_base.specs.declared.error.NoMemory.{NoMemory}
 use Rattle.sp_base.specs.declared.addr.Scheme.{Scheme}
 use Rattle.sp_history.specs.declared.entry.Miss.TheVariants as misses
@@ -56,9 +56,9 @@ scheme_is : (a b : Scheme) → Some a ≡ Some b → a ≡ b
 scheme_is a b e = cc
 
 -- the newcomer over it is before the others
-pub newcomer_met : {L : Type 0} (seen : L → LinkView) (start : Beginning) (before net : NetView) (ends : LinkEndsView L) (a b : SingleView) (t : ℕ) (n : Newcomer L) (link : L) (place : ℕ) (role : Role) (way : Result Way NoMemory) (begins : Way) (from : Option ℕ) → place ≡ (seen link).place → way ≡ Ok begins → IsNewcomer seen link role begins t from n → role ≡ ends.role
-    → TookOne (MeetsAt place) a b → Arrives start.origins (seen link) way before net → InTurn seen start ends before a t 0 → InTurnWith seen start n ends net b t 0
-newcomer_met seen start before net ends a b t n link place role way begins from place_is way_is newcomer role_is took r i =
+pub newcomer_met : {L : Type 0} (seen : L → LinkView) (start : Beginning) (before net : NetView) (ends : LinkEndsView L) (a b : SingleView) (t : ℕ) (n : Newcomer L) (link : L) (place : ℕ) (role : Role) (way : Result Way NoMemory) (max : ℕ) (begins : Way) (from : Option ℕ) → place ≡ (seen link).place → way ≡ Ok begins → IsNewcomer seen link role begins t from max n → role ≡ ends.role
+    → TookOne (MeetsAt place) a b → Arrives start.origins (seen link) way max before net → InTurn seen start ends before a t 0 → InTurnWith seen start n ends net b t 0
+newcomer_met seen start before net ends a b t n link place role way max begins from place_is way_is newcomer role_is took r i =
     let quiet = meets_quiet place a b took in
     let setting_is : a.setting.role ≡ b.setting.role = ap (λ (z : Setting). z.role) (sym took.setting) in
     let same : begins ≡ r.begins = subst (λ (w : Result Way NoMemory). IfOk w (λ x. x ≡ r.begins)) way_is r.is in
@@ -74,7 +74,7 @@ newcomer_met seen start before net ends a b t n link place role way begins from 
     subst (λ (v : LinkView). met_at (past_of b.seen) v.place ≡ Some n.met) link_is (met_when seen start before net ends a b t (seen link) place place_is took i ∙ ap Some (sym newcomer.met_is)) in
     record {
       role = i.role ∙ setting_is;
-      links = hand_first seen b.setting start net b.seen ends.newcomers n (subst (λ (v : LinkView). HandStands seen b.setting start b.seen net ends.newcomers 0 v) link_is hand) newcomer.under_way run met;
+      links = hand_first seen b.setting start net b.seen ends.newcomers n (subst (λ (v : LinkView). HandStands seen b.setting start b.seen net ends.newcomers 0 v) link_is hand) newcomer.under_way run met (subst (λ (m : ℕ). IsAmong m start.origins.limits) (sym newcomer.max_is) r.limit);
       of_run = i.of_run;
       now_is = quiet_now t a b quiet i.now_is;
       ticked = subst (λ (ts : List ℕ). 0 < length ts) (sym (quiet_ticks a b quiet)) i.ticked;
@@ -82,8 +82,8 @@ newcomer_met seen start before net ends a b t n link place role way begins from 
     }
 
 -- out of memory is a cause of any link that arrives
-pub dry_cause : (start : Beginning) (z : Setting) (h : List (Turn Entry)) (link : LinkView) (way : Result Way NoMemory) (before net : NetView) → Arrives start.origins link way before net → IsCauseOf start.origins z h misses.NoMemory link
-dry_cause start z h link way before net r = (r.begins, (scheme_is link.scheme (scheme_for r.begins) r.handed.scheme, r.known), tt)
+pub dry_cause : (start : Beginning) (z : Setting) (h : List (Turn Entry)) (link : LinkView) (way : Result Way NoMemory) (max : ℕ) (before net : NetView) → Arrives start.origins link way max before net → IsCauseOf start.origins z h misses.NoMemory link
+dry_cause start z h link way max before net r = (r.begins, (scheme_is link.scheme (scheme_for r.begins) r.handed.scheme, r.known), tt)
 
 -- ---- No link was handed out
 

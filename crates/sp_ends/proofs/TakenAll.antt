@@ -39,7 +39,7 @@ module _ (z : Setting) (p : ℕ) where
   -- a pipe that is down and not taken
   pub untaken_off : (past : List Entry) → AreAllowed z past → has (untaken past) p ≡ true → IsOff false past p
   untaken_off [] a h = cc
-  untaken_off (Up q place name ∷ past) a h =
+  untaken_off (Up q place limit name ∷ past) a h =
       let x = untaken_off past a.1 h in
       let f = a.0.1.itself.0 in
       let l = x.0 in (omega (arith, l), still_apart (up past) q p x.1 (λ same. absurd (omega (arith, same, f, l))), λ no. cc)
@@ -54,7 +54,7 @@ module _ (z : Setting) (p : ℕ) where
   untaken_off (_ ∷ past) a h = untaken_off past a.1 h
 
   off_one : (t : Bool) (e : Entry) (past : List Entry) → AreAllowed z (e ∷ past) → IsOff t past p → IsOff t (e ∷ past) p
-  off_one t (Up q place name) past a x =
+  off_one t (Up q place limit name) past a x =
       let f = a.0.1.itself.0 in
       let l = x.0 in (omega (arith, l), still_apart (up past) q p x.1 (λ same. absurd (omega (arith, same, f, l))), x.2)
   off_one t (Down q why) past a x =

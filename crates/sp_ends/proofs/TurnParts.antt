@@ -25,7 +25,7 @@ use Rattle.sp_links.specs.Origins.{Origins, IsAmong}
 use Rattle.sp_ends.specs.EndViews.{Beginning, LinkEndsView}
 use Rattle.sp_ends.specs.RunLinks.{AreOfRun, LinksStand, HasCarried, IsAskedIn, SameCounts}
 use Rattle.sp_ends.specs.SocketSteps.{Quietly}
-use Rattle.sp_ends.specs.EndsTurns.{InTurn, InTurnWith, SameEnds, SameButPlaces, Serves, DialsOne, addrs_of}
+use Rattle.sp_ends.specs.EndsTurns.{InTurn, InTurnWith, SameEnds, SameButPlaces, Serves, DialsOne, targets_of}
 use Rattle.sp_ends.specs.DialerSteps.{IsSameDialer}
 use Rattle.sp_ends.specs.Freeing.{AreSameDialers}
 use Rattle.sp_ends.proofs.LinkPlaces.{gone}
@@ -38,7 +38,7 @@ use Rattle.sp_ends.proofs.Turns.{quiet_both, quiet_none, quiet_now, quiet_ticks,
 -- ---- The same ends
 
 pub same_dialer : (d : Dialer) → IsSameDialer d d
-same_dialer d = record { addr = refl; tries = refl; free = λ e. refl }
+same_dialer d = record { addr = refl; max = refl; tries = refl; free = λ e. refl }
 
 pub same_dialers : (ds : List Dialer) → AreSameDialers ds ds
 same_dialers [] = tt
@@ -46,7 +46,7 @@ same_dialers (d ∷ ds) = (same_dialer d, same_dialers ds)
 
 pub dialer_both : (a b c : Dialer) → IsSameDialer a b → IsSameDialer b c → IsSameDialer a c
 dialer_both a b c x y =
-    record { addr = y.addr ∙ x.addr; tries = y.tries ∙ x.tries; free = λ e. let s = x.free e in y.free (ap (λ (d : Dialer). d.place) s ∙ e) ∙ s }
+    record { addr = y.addr ∙ x.addr; max = y.max ∙ x.max; tries = y.tries ∙ x.tries; free = λ e. let s = x.free e in y.free (ap (λ (d : Dialer). d.place) s ∙ e) ∙ s }
 
 pub dialers_both : (xs ys zs : List Dialer) → AreSameDialers xs ys → AreSameDialers ys zs → AreSameDialers xs zs
 dialers_both [] [] [] x y = tt
@@ -64,31 +64,34 @@ dialers_long [] (e ∷ es) x = absurd x
 dialers_long (d ∷ ds) [] x = absurd x
 
 -- each has its address
-pub dialers_addrs : (ds es : List Dialer) → AreSameDialers ds es → addrs_of es ≡ addrs_of ds
-dialers_addrs [] [] x = refl
-dialers_addrs (d ∷ ds) (e ∷ es) x = ap (λ (a : Addr). a ∷ addrs_of es) x.0.addr ∙ ap (λ (more : List Addr). d.addr ∷ more) (dialers_addrs ds es x.1)
-dialers_addrs [] (e ∷ es) x = absurd x
-dialers_addrs (d ∷ ds) [] x = absurd x
+one_target : (a b : Addr) (m n : ℕ) → a ≡ b → m ≡ n → ◌≡◌ {A = Addr × ℕ} (a, m) (b, n)
+one_target a b m n x y = cc
 
-pub dials_addrs : (i now : ℕ) (same : Type 0) (ds es : List Dialer) → DialsOne i now same ds es → addrs_of es ≡ addrs_of ds
-dials_addrs i now same [] [] x = refl
-dials_addrs zero now same (d ∷ ds) (e ∷ es) x = ap (λ (a : Addr). a ∷ addrs_of es) x.0.addr ∙ ap (λ (more : List Addr). d.addr ∷ more) (dialers_addrs ds es x.1)
-dials_addrs (suc i) now same (d ∷ ds) (e ∷ es) x = ap (λ (a : Addr). a ∷ addrs_of es) x.0.addr ∙ ap (λ (more : List Addr). d.addr ∷ more) (dials_addrs i now same ds es x.1)
-dials_addrs zero now same (d ∷ ds) [] x = absurd x
-dials_addrs (suc i) now same (d ∷ ds) [] x = absurd x
-dials_addrs zero now same [] (e ∷ es) x = absurd x
-dials_addrs (suc i) now same [] (e ∷ es) x = absurd x
+pub dialers_targets : (ds es : List Dialer) → AreSameDialers ds es → targets_of es ≡ targets_of ds
+dialers_targets [] [] x = refl
+dialers_targets (d ∷ ds) (e ∷ es) x = ap (λ (t : Addr × ℕ). t ∷ targets_of es) (one_target e.addr d.addr e.max d.max x.0.addr x.0.max) ∙ ap (λ (more : List (Addr × ℕ)). (d.addr, d.max) ∷ more) (dialers_targets ds es x.1)
+dialers_targets [] (e ∷ es) x = absurd x
+dialers_targets (d ∷ ds) [] x = absurd x
 
--- dialers of the same addresses
-same_addrs : (P : Addr → Type 0) (ds es : List Dialer) → addrs_of es ≡ addrs_of ds → AllByRecursion (λ (d : Dialer). P d.addr) ds → AllByRecursion (λ (d : Dialer). P d.addr) es
-same_addrs P ds [] e all = tt
-same_addrs P [] (d ∷ es) e all = cc
-same_addrs P (c ∷ ds) (d ∷ es) e all = (subst P (sym (first_is d.addr c.addr (addrs_of es) (addrs_of ds) e)) all.0, same_addrs P ds es (rest_is d.addr c.addr (addrs_of es) (addrs_of ds) e) all.1)
+pub dials_targets : (i now : ℕ) (same : Type 0) (ds es : List Dialer) → DialsOne i now same ds es → targets_of es ≡ targets_of ds
+dials_targets i now same [] [] x = refl
+dials_targets zero now same (d ∷ ds) (e ∷ es) x = ap (λ (t : Addr × ℕ). t ∷ targets_of es) (one_target e.addr d.addr e.max d.max x.0.addr x.0.max) ∙ ap (λ (more : List (Addr × ℕ)). (d.addr, d.max) ∷ more) (dialers_targets ds es x.1)
+dials_targets (suc i) now same (d ∷ ds) (e ∷ es) x = ap (λ (t : Addr × ℕ). t ∷ targets_of es) (one_target e.addr d.addr e.max d.max x.0.addr x.0.max) ∙ ap (λ (more : List (Addr × ℕ)). (d.addr, d.max) ∷ more) (dials_targets i now same ds es x.1)
+dials_targets zero now same (d ∷ ds) [] x = absurd x
+dials_targets (suc i) now same (d ∷ ds) [] x = absurd x
+dials_targets zero now same [] (e ∷ es) x = absurd x
+dials_targets (suc i) now same [] (e ∷ es) x = absurd x
+
+-- dialers of the same addresses, with the same receive limits
+same_targets : (P : Addr × ℕ → Type 0) (ds es : List Dialer) → targets_of es ≡ targets_of ds → AllByRecursion (λ (d : Dialer). P (d.addr, d.max)) ds → AllByRecursion (λ (d : Dialer). P (d.addr, d.max)) es
+same_targets P ds [] e all = tt
+same_targets P [] (d ∷ es) e all = cc
+same_targets P (c ∷ ds) (d ∷ es) e all = (subst P (sym (first_is (d.addr, d.max) (c.addr, c.max) (targets_of es) (targets_of ds) e)) all.0, same_targets P ds es (rest_is (d.addr, d.max) (c.addr, c.max) (targets_of es) (targets_of ds) e) all.1)
   where
-    first_is : (a b : Addr) (xs ys : List Addr) → a ∷ xs ≡ b ∷ ys → a ≡ b
+    first_is : (a b : Addr × ℕ) (xs ys : List (Addr × ℕ)) → a ∷ xs ≡ b ∷ ys → a ≡ b
     first_is a b xs ys e = cc
 
-    rest_is : (a b : Addr) (xs ys : List Addr) → a ∷ xs ≡ b ∷ ys → xs ≡ ys
+    rest_is : (a b : Addr × ℕ) (xs ys : List (Addr × ℕ)) → a ∷ xs ≡ b ∷ ys → xs ≡ ys
     rest_is a b xs ys e = cc
 
 -- the ends are the run's, later too
@@ -96,8 +99,10 @@ pub of_run_on : {L : Type 0} (o : Origins) (old new : LinkEndsView L) → SameEn
 of_run_on o old new same r =
     record {
       listens = subst (AllByRecursion (λ (l : Listener). IsAmong l.addr o.listens)) (sym same.listeners) r.listens;
-      dials = same_addrs (λ (a : Addr). IsAmong a o.dials) old.dialers new.dialers same.dials r.dials;
+      dials = same_targets (λ (t : Addr × ℕ). IsAmong t.0 o.dials) old.dialers new.dialers same.dials r.dials;
       dice = same.dice ∙ r.dice;
+      listen_limits = subst (AllByRecursion (λ (l : Listener). IsAmong l.max o.limits)) (sym same.listeners) r.listen_limits;
+      dial_limits = same_targets (λ (t : Addr × ℕ). IsAmong t.1 o.limits) old.dialers new.dialers same.dials r.dial_limits;
     }
 
 pub dials_long : (i now : ℕ) (same : Type 0) (ds es : List Dialer) → DialsOne i now same ds es → length es ≡ length ds
@@ -123,7 +128,7 @@ counts_back link a b g = record { listens = g.listens; opened = g.opened; faults
 
 pub up_numbered : (z : Setting) (past : List Entry) (p : ℕ) → AreAllowed z past → has (up past) p ≡ true → p ≤ ups past
 up_numbered z [] p a h = cc
-up_numbered z (Up q place name ∷ past) p a h = go (has (up past) p) refl (up_numbered z past p a.1)
+up_numbered z (Up q place limit name ∷ past) p a h = go (has (up past) p) refl (up_numbered z past p a.1)
   where
     go : (t : Bool) → has (up past) p ≡ t → (has (up past) p ≡ true → p ≤ ups past) → p ≤ ups past + 1
     go true e f = let l = f e in omega arith
@@ -133,7 +138,7 @@ up_numbered z (_ ∷ past) p a h = up_numbered z past p a.1 h
 
 pub down_off : (z : Setting) (past : List Entry) (p : ℕ) (why : Why) → AreAllowed z past → down_for past p ≡ Some why → (p ≤ ups past) × (has (up past) p ≡ false)
 down_off z [] p why a h = cc
-down_off z (Up q place name ∷ past) p why a h = go (has (up past ++ q ∷ []) p) refl (down_off z past p why a.1 h)
+down_off z (Up q place limit name ∷ past) p why a h = go (has (up past ++ q ∷ []) p) refl (down_off z past p why a.1 h)
   where
     go : (t : Bool) → has (up past ++ q ∷ []) p ≡ t → (p ≤ ups past) × (has (up past) p ≡ false) → (p ≤ ups past + 1) × (has (up past ++ q ∷ []) p ≡ false)
     go false e x = (let l = x.0 in omega arith, e)
@@ -156,7 +161,7 @@ module _ {L : Type 0} where
   ends_both a b c x y = record { role = y.role ∙ x.role; dice = y.dice ∙ x.dice; listeners = y.listeners ∙ x.listeners; dials = y.dials ∙ x.dials }
 
   pub ends_lost : (a b : LinkEndsView L) → SameButPlaces a b → SameEnds a b
-  ends_lost a b x = record { role = ap (λ (e : LinkEndsView L). e.role) x.ends; dice = ap (λ (e : LinkEndsView L). e.dice) x.ends; listeners = ap (λ (e : LinkEndsView L). e.listeners) x.ends; dials = dialers_addrs a.dialers b.dialers x.dialers }
+  ends_lost a b x = record { role = ap (λ (e : LinkEndsView L). e.role) x.ends; dice = ap (λ (e : LinkEndsView L). e.dice) x.ends; listeners = ap (λ (e : LinkEndsView L). e.listeners) x.ends; dials = dialers_targets a.dialers b.dialers x.dialers }
 
   pub newcomers_lost : (a b : LinkEndsView L) → SameButPlaces a b → b.newcomers ≡ a.newcomers
   newcomers_lost a b x = ap (λ (e : LinkEndsView L). e.newcomers) x.ends
@@ -198,7 +203,7 @@ module _ {L : Type 0} where
   -- the first of the newcomers is taken out
   pub turn_with : (seen : L → LinkView) (start : Beginning) (n : Newcomer L) (rest : List (Newcomer L)) (old new : LinkEndsView L) (net : NetView) (time k k' : ℕ) (a : SingleView) → old.newcomers ≡ n ∷ rest → new ≡ record old { newcomers = rest } → k ≡ suc k' → InTurn seen start old net a time k → InTurnWith seen start n new net a time k'
   turn_with seen start n rest old new net time k k' a first is one i =
-      subst (λ (e : LinkEndsView L). InTurnWith seen start n e net a time k') (sym is) (record { role = i.role; links = subst (λ (m : ℕ). LinksStand seen a.setting start a.seen net (n ∷ rest) m) one (subst (λ (ns : List (Newcomer L)). LinksStand seen a.setting start a.seen net ns k) first i.links); of_run = record { listens = i.of_run.listens; dials = i.of_run.dials; dice = i.of_run.dice }; now_is = i.now_is; ticked = i.ticked; sound = i.sound })
+      subst (λ (e : LinkEndsView L). InTurnWith seen start n e net a time k') (sym is) (record { role = i.role; links = subst (λ (m : ℕ). LinksStand seen a.setting start a.seen net (n ∷ rest) m) one (subst (λ (ns : List (Newcomer L)). LinksStand seen a.setting start a.seen net ns k) first i.links); of_run = record { listens = i.of_run.listens; dials = i.of_run.dials; dice = i.of_run.dice; listen_limits = i.of_run.listen_limits; dial_limits = i.of_run.dial_limits }; now_is = i.now_is; ticked = i.ticked; sound = i.sound })
 
   -- its fate
   pub turn_after : (seen : L → LinkView) (start : Beginning) (n : Newcomer L) (old new : LinkEndsView L) (net net' : NetView) (time k k' : ℕ) (a b : SingleView) → SameEnds old new → Quietly a b → IsSound b → InTurnWith seen start n old net a time k → LinksStand seen b.setting start b.seen net' new.newcomers k' → InTurn seen start new net' b time k'

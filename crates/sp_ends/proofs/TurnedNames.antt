@@ -1,5 +1,5 @@
 -- What a whole turn does to the names.
-use Rattle.std.proofs.Common.{◌≡◌, refl, ap, sym, ◌∙◌, subst, List, [], ◌∷◌, ℕ, ◌+◌, ◌*◌, ◌≤◌, ◌<◌, Bool, true, false, arith, length, Option, Some, None, inl, inr, eq-eqb, eqb-true}
+use Rattle.std.proofs.Common.{◌≡◌, refl, ap, sym, ◌∙◌, subst, List, [], ◌∷◌, ℕ, ◌+◌, ◌*◌, ◌≤◌, Bool, true, false, arith, length, Option, Some, None, inl, inr, eq-eqb, eqb-true}
 use Rattle.std.specs.Prelude.{◌==◌, ◌⊎◌, ⊤}
 use Rattle.turn_lock.specs.declared.turn.Turn.{Turn}
 use Rattle.sp_base.specs.declared.role.Role.{Role}
@@ -12,7 +12,7 @@ use Rattle.sp_history.specs.Past.{onto, past_from, past_of, ups, untaken}
 use Rattle.sp_history.proofs.Backing.{legal_allowed}
 use Rattle.sp_core.specs.Standing.{HasFirst}
 use Rattle.sp_socket.specs.Singles.{SingleView, TookOne, IsSound}
-use Rattle.sp_lane.specs.Registry.{Registry, names}
+use Rattle.sp_lane.specs.Registry.{Registry}
 use Rattle.sp_ends.specs.LinkRecords.{lane_place}
 use Rattle.sp_ends.specs.Entries.{moves_ends}
 use Rattle.sp_ends.specs.DialMoments.{moment, IsDueAt}
@@ -23,7 +23,7 @@ use Rattle.sp_ends.specs.declared.name_dialer.NameDialer.{NameDialer}
 use Rattle.std.proofs.lemmas.Bool.{ne_eqb}
 use Rattle.sp_ends.proofs.LinkPlaces.{gone}
 use Rattle.sp_ends.proofs.Moves.{unequal}
-use Rattle.sp_ends.proofs.LaterEntries.{entries_keep, has_other, grown, numbered, past_of_more}
+use Rattle.sp_ends.proofs.LaterEntries.{entries_keep, has_other, grown, past_of_more}
 use Rattle.sp_ends.proofs.LinksStay.{legal_rest}
 use Rattle.sp_ends.proofs.EndsStay.{settles}
 use Rattle.sp_ends.proofs.Turns.{after_one}
@@ -165,7 +165,7 @@ turns_callers now a b c d e on go more quiet sound quiet' sound' (x ∷ xs) (y �
 -- ---- Lanes of a whole turn
 
 one_up : (e : Entry) (past : List Entry) → ups past ≤ ups (e ∷ past)
-one_up (Up p place name) past = omega arith
+one_up (Up p place limit name) past = omega arith
 one_up _ past = omega arith
 
 ups_onto : (es past : List Entry) → ups past ≤ ups (onto es past)

@@ -74,7 +74,7 @@ sound_one says a b k = record { legal = k.legal; settled = k.settled }
 -- ---- Turns in which no lane comes up
 
 lanes_of : (e : Entry) → moves_ends e ≡ false → is_lane e ≡ false
-lanes_of (Up p place name) h = cc
+lanes_of (Up p place limit name) h = cc
 lanes_of _ h = refl
 
 pub lane_settles : (entries : List Entry) → AreSettling entries → none_of is_lane entries ≡ true

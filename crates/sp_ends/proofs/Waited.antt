@@ -7,9 +7,7 @@ use Rattle.sp_base.specs.Outside.{Rose}
 use Rattle.sp_base.specs.Views.{LinkView}
 use Rattle.sp_links.specs.Going.{WaitsFor}
 use Rattle.sp_ends.specs.declared.newcomer.Newcomer.{Newcomer}
-use Rattle.sp_ends.specs.declared.greeting.NewcomerFate.{NewcomerFate}
-use Rattle.sp_ends.specs.declared.greeting.NewcomerFate.TheVariants as fates
-use Rattle.sp_ends.specs.NewcomerSteps.{IsOut, HasWaitedOn, FateHasWaited}
+use Rattle.sp_ends.specs.NewcomerSteps.{HasWaitedOn}
 use Rattle.sp_ends.specs.EndsTurns.{IsOneOf, IsFirstOrNew, HasWaitedSince, AreWaitingBehind}
 
 rose_once : (a b : ℕ) → Rose a b → 1 ≤ b

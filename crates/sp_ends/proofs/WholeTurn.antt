@@ -1,6 +1,5 @@
 -- The parts of a turn of the ends, together.
-use Rattle.std.proofs.Common.{◌≡◌, ◌≤◌, ◌+◌, ◌-◌, ◌*◌, ℕ, Bool, true, List, length, refl, sym, ap, subst, ◌∙◌, arith, inl, inr}
-use Rattle.std.specs.Prelude.{◌⊎◌}
+use Rattle.std.proofs.Common.{◌≡◌, ◌≤◌, ◌+◌, ◌-◌, ◌*◌, ℕ, Bool, true, List, length, refl, sym, ap, subst, ◌∙◌, arith}
 use Rattle.std.specs.FinMap.{get}
 use Rattle.sp_base.specs.Views.{LinkView, NetView}
 use Rattle.sp_history.specs.declared.entry.Entry.{Entry}
@@ -15,7 +14,7 @@ use Rattle.sp_ends.specs.EndViews.{Beginning, LinkEndsView}
 use Rattle.sp_ends.specs.RunLinks.{NetStands, EndsStand, IsListener, SameCounts, sum_of, tries_of}
 use Rattle.sp_ends.specs.Freeing.{Frees, AreSameDialers}
 use Rattle.sp_ends.specs.Listening.{open_of, asks_to, FewerOwn}
-use Rattle.sp_ends.specs.EndsTurns.{EndsTicked, SameEnds, InTurn, Serves, HasAsked, HasAskedTo, dues_of, asks_of, AsksDue, AsksAll, AsksEach}
+use Rattle.sp_ends.specs.EndsTurns.{EndsTicked, SameEnds, InTurn, Serves, HasAsked, HasAskedTo, AsksDue, AsksAll, AsksEach}
 use Rattle.sp_ends.specs.SocketSteps.{Quietly}
 use Rattle.sp_ends.proofs.EndsStay.{all_mapped}
 use Rattle.sp_ends.proofs.TurnParts.{dialers_long, ends_none, same_dialers, counts_none, serves_both}

@@ -3,9 +3,7 @@ use Rattle.std.proofs.Common.{◌≡◌, ◌≤◌, ◌++◌, ◌∷◌, ℕ, ze
 use Rattle.std.specs.List.{AllByRecursion}
 use Rattle.std.proofs.lemmas.List.{drop_all}
 use Rattle.sp_ends.specs.declared.newcomer.Newcomer.{Newcomer}
-use Rattle.sp_ends.specs.declared.greeting.NewcomerFate.{NewcomerFate}
-use Rattle.sp_ends.specs.declared.greeting.NewcomerFate.TheVariants as fates
-use Rattle.sp_ends.specs.NewcomerSteps.{IsYoung, FateIsYoung, IsOut}
+use Rattle.sp_ends.specs.NewcomerSteps.{IsYoung}
 use Rattle.sp_ends.specs.EndsTurns.{AreYoung}
 
 module _ {L : Type 0} (now : ℕ) where

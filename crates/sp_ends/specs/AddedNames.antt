@@ -1,10 +1,9 @@
 -- One more name within the process.
-use Rattle.std.specs.Prelude.{◌≡◌, ◌+◌, ◌++◌, ℕ, List, [], ◌∷◌, Some, None, Result, Ok, Err}
+use Rattle.std.specs.Prelude.{◌≡◌, ◌++◌, ℕ, List, [], ◌∷◌, Some, None, Result, Ok, Err}
 use Rattle.sp_base.specs.declared.role.Role.{Role}
 use Rattle.sp_ends.specs.declared.name_dialer.NameDialer.{NameDialer}
-use Rattle.sp_base.specs.declared.error.NoMemory.{NoMemory}
 use Rattle.sp_ends.specs.EndViews.{NamesView}
-use Rattle.sp_lane.specs.Registry.{Registry, Listens, names}
+use Rattle.sp_lane.specs.Registry.{Registry, Listens}
 use Rattle.sp_lane.specs.declared.inproc.InprocError.TheVariants as lanes
 use Rattle.sp_ends.specs.declared.error.EndError.{EndError}
 use Rattle.sp_ends.specs.declared.error.EndError.TheVariants as errors

@@ -10,6 +10,7 @@ use Rattle.sp_ends.specs.DialMoments.{moment}
 -- the net was asked for it once more; `from` is the moment from which it may be asked again, and `link` is its link
 pub record HasTried (from link : Option ℕ) (old new : Dialer) : Type 0 where
   pub addr : new.addr ≡ old.addr
+  pub max : new.max ≡ old.max
   pub next : new.next ≡ from
   pub place : new.place ≡ link
   pub tries : new.tries ≡ min (old.tries + 1) (2 ^ 64 - 1)
@@ -31,6 +32,7 @@ place_after seen linked.Failed = None
 -- the dialer is the same, except for the link that it has lost
 pub record IsSameDialer (old new : Dialer) : Type 0 where
   pub addr : new.addr ≡ old.addr
+  pub max : new.max ≡ old.max
   pub tries : new.tries ≡ old.tries
   pub free : old.place ≡ None → new ≡ old
 

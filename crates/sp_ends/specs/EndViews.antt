@@ -7,7 +7,6 @@ use Rattle.sp_ends.specs.declared.name_dialer.NameDialer.{NameDialer}
 use Rattle.sp_ends.specs.declared.dialer.Dialer.{Dialer}
 use Rattle.sp_ends.specs.declared.listener.Listener.{Listener}
 use Rattle.sp_links.specs.Origins.{Origins}
-use Rattle.sp_lane.specs.Registry.{names}
 
 -- what there was when the run began: the net, and where the links come from
 pub record Beginning : Type 0 where

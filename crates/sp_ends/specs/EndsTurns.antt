@@ -1,5 +1,5 @@
 -- What a turn of the ends does, and its parts.
-use Rattle.std.specs.Prelude.{◌≡◌, ◌≤◌, ◌<◌, ◌+◌, ◌*◌, ◌^◌, ◌⊎◌, ℕ, ⊤, Bool, true, false, List, [], ◌∷◌, length, map, take, drop, Some, None, ◌-◌, min, zero, suc, if◌then◌else◌, Result, Ok, IfOk}
+use Rattle.std.specs.Prelude.{◌≡◌, ◌≤◌, ◌<◌, ◌+◌, ◌*◌, ◌^◌, ◌⊎◌, ℕ, ⊤, Bool, true, false, List, [], ◌∷◌, length, map, take, drop, Some, ◌-◌, min, zero, suc, if◌then◌else◌, Result, Ok, IfOk}
 use Rattle.std.specs.List.{AllByRecursion}
 use Rattle.turn_lock.specs.declared.turn.Turn.{Turn}
 use Rattle.sp_base.specs.Views.{LinkView, NetView}
@@ -15,7 +15,7 @@ use Rattle.sp_ends.specs.declared.newcomer.Newcomer.{Newcomer}
 use Rattle.sp_ends.specs.declared.dialer.Dialer.{Dialer}
 use Rattle.sp_links.specs.declared.way.Way.{Way}
 use Rattle.sp_links.specs.Openings.{scheme_for, CanBegin}
-use Rattle.sp_links.specs.Origins.{Origins, IsKnown}
+use Rattle.sp_links.specs.Origins.{Origins, IsAmong, IsKnown}
 use Rattle.sp_base.specs.Steps.{IsHandedOut}
 use Rattle.sp_base.specs.declared.error.NoMemory.{NoMemory}
 use Rattle.sp_socket.specs.Singles.{SingleView, IsSound, IsNow}
@@ -46,12 +46,16 @@ AllTaken old new = (p : ℕ) → has (untaken (past_of old.seen)) p ≡ true →
 abbrev pub addrs_of : List Dialer → List Addr
 addrs_of ds = map (λ (d : Dialer). d.addr) ds
 
+-- the addresses that are dialed, each with its receive limit
+abbrev pub targets_of : List Dialer → List (Addr × ℕ)
+targets_of ds = map (λ (d : Dialer). (d.addr, d.max)) ds
+
 -- the same ends, except for their links and what dialers know of theirs
 pub record SameEnds {L : Type 0} (old new : LinkEndsView L) : Type 0 where
   pub role : new.role ≡ old.role
   pub dice : new.dice ≡ old.dice
   pub listeners : new.listeners ≡ old.listeners
-  pub dials : addrs_of new.dialers ≡ addrs_of old.dialers
+  pub dials : targets_of new.dialers ≡ targets_of old.dialers
 
 -- within a turn of the ends, where k links are still to be greeted
 pub record InTurn {L : Type 0} (seen : L → LinkView) (start : Beginning) (ends : LinkEndsView L) (net : NetView) (s : SingleView) (now : ℕ) (k : ℕ) : Type 0 where
@@ -97,6 +101,7 @@ pub record AsksNet (old new : NetView) : Type 0 where
 -- the dialer has tried once more; where no link was handed out it is free, or a connection of it is under way
 pub record HasDialed (now : ℕ) (same : Type 0) (old new : Dialer) : Type 0 where
   pub addr : new.addr ≡ old.addr
+  pub max : new.max ≡ old.max
   pub tries : new.tries ≡ min (old.tries + 1) (2 ^ 64 - 1)
   pub next : same → IsFree now new ⊎ IsUnderWay now new
 
@@ -207,12 +212,14 @@ FitsIn way result ends = IfOk result (λ w. (way ≡ Ok w) × (length ends.newco
 
 -- ---- A link that is new
 
--- a link that was handed out begins in a known way; `way` is that way, unless out of memory
-pub record Arrives (o : Origins) (link : LinkView) (way : Result Way NoMemory) (old new : NetView) : Type 0 where
+-- a link that was handed out begins in a known way, with the receive limit of an end; `way` is that way, unless out of
+-- memory
+pub record Arrives (o : Origins) (link : LinkView) (way : Result Way NoMemory) (max : ℕ) (old new : NetView) : Type 0 where
   pub begins : Way
   pub is : IfOk way (λ w. w ≡ begins)
   pub known : IsKnown o begins
   pub can : CanBegin begins
+  pub limit : IsAmong max o.limits
   pub handed : IsHandedOut link (Some (scheme_for begins)) old new
 
 -- the number of WebSocket links that were dialed, once one of this scheme was
@@ -285,11 +292,11 @@ GreetsInTurn seen now n old new net net' s s' =
     (start : Beginning) (k : ℕ) → InTurnWith seen start n old net s now k → InTurn seen start new net' s' now k
 
 -- the net handed this link out within the turn
-abbrev pub HasArrived : {L : Type 0} → (L → LinkView) → ℕ → L → Result Way NoMemory → LinkEndsView L → NetView → SingleView → Type 0
-HasArrived seen now link way ends net s =
-    (start : Beginning) × (before : NetView) × InTurn seen start ends before s now 0 × Arrives start.origins (seen link) way before net
+abbrev pub HasArrived : {L : Type 0} → (L → LinkView) → ℕ → L → Result Way NoMemory → ℕ → LinkEndsView L → NetView → SingleView → Type 0
+HasArrived seen now link way max ends net s =
+    (start : Beginning) × (before : NetView) × InTurn seen start ends before s now 0 × Arrives start.origins (seen link) way max before net
 
 -- it is met, and greeted
-abbrev pub MeetsInTurn : {L : Type 0} → (L → LinkView) → ℕ → L → Result Way NoMemory → LinkEndsView L → LinkEndsView L → NetView → NetView → SingleView → SingleView → Type 0
-MeetsInTurn seen now link way old new net net' s s' =
-    (start : Beginning) (before : NetView) → InTurn seen start old before s now 0 → Arrives start.origins (seen link) way before net → InTurn seen start new net' s' now 0
+abbrev pub MeetsInTurn : {L : Type 0} → (L → LinkView) → ℕ → L → Result Way NoMemory → ℕ → LinkEndsView L → LinkEndsView L → NetView → NetView → SingleView → SingleView → Type 0
+MeetsInTurn seen now link way max old new net net' s s' =
+    (start : Beginning) (before : NetView) → InTurn seen start old before s now 0 → Arrives start.origins (seen link) way max before net → InTurn seen start new net' s' now 0

@@ -28,7 +28,7 @@ moves_calls _ = false
 
 -- by the entry a link is handed out, comes up, is missed or is taken, or the moment comes
 abbrev pub moves_ends : Entry → Bool
-moves_ends (Up p place name) = true
+moves_ends (Up p place limit name) = true
 moves_ends (Met place) = true
 moves_ends (NoUp place miss) = true
 moves_ends (Taken p) = true

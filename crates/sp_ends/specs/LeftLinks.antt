@@ -7,7 +7,7 @@ use Rattle.sp_history.specs.declared.setting.Setting.{Setting}
 use Rattle.sp_history.specs.Past.{past_of, down_for, is_cleared, is_closed}
 use Rattle.sp_ends.specs.Entries.{each}
 use Rattle.sp_ends.specs.LinkRecords.{lane_place, place_of, IsBack, Records, times_out_rightly}
-use Rattle.sp_ends.specs.LinkRecords.{KeepsOthers, max_body, AreWhole}
+use Rattle.sp_ends.specs.LinkRecords.{KeepsOthers, AreWhole}
 use Rattle.sp_ends.specs.LinkCounts.{IsAsked, IsRead}
 use Rattle.sp_history.specs.Found.{ticks}
 use Rattle.sp_links.specs.Origins.{run_ways}
@@ -26,7 +26,7 @@ ClosedCleared past = (p : ℕ) → down_for past p ≡ Some whys.Closed → is_c
 
 -- all links are back, and what is said about them holds
 pub record LinksLeft (z : Setting) (start : Beginning) (h : List (Turn Entry)) (net : NetView) : Type 0 where
-  pub records : IsTrue (each times_out_rightly (past_of h)) → Records (run_ways z.role start.origins) z max_body start.net.opened net.opened net.back h
+  pub records : IsTrue (each times_out_rightly (past_of h)) → Records (run_ways z.role start.origins) z start.origins.limits start.net.opened net.opened net.back h
   pub others : KeepsOthers start.net net
   pub asked : length (ticks (past_of h)) < 2 ^ 64 → (place : ℕ) → start.net.opened ≤ place → place < net.opened → IsBack net.back place (IsAsked (past_of h) place)
   pub read : (p place : ℕ) → place_of (past_of h) p ≡ Some place → place ≢ lane_place → place < net.opened → IsBack net.back place (IsRead h p)

@@ -22,8 +22,9 @@ use Rattle.sp_history.specs.declared.setting.Setting.{Setting}
 use Rattle.sp_history.specs.Setting.{is_pair}
 use Rattle.sp_history.specs.Lists.{has, without, is_nil, same_op}
 use Rattle.sp_history.specs.Legal.{last_is_malformed}
-use Rattle.sp_history.specs.Past.{past_of, up, ups, untaken, frames, outs, now, is_closed, down_for}
+use Rattle.sp_history.specs.Past.{past_of, up, ups, untaken, frames, outs, now, is_closed, down_for, limit_of}
 use Rattle.sp_links.specs.Ways.{Ways, peer_number, IsComplete, IsSpoilt, WroteOrStalled, HasOpened, BeganSo}
+use Rattle.sp_links.specs.Origins.{IsAmong}
 use Rattle.sp_ends.specs.Entries.{each}
 
 -- ---- Places
@@ -35,7 +36,7 @@ lane_place = 2 ^ 32 - 1
 -- the link over which the pipe came up
 abbrev pub place_of : List Entry → ℕ → Option ℕ
 place_of [] p = None
-place_of (Up q place name ∷ past) p = if q == p then Some place else place_of past p
+place_of (Up q place limit name ∷ past) p = if q == p then Some place else place_of past p
 place_of (_ ∷ past) p = place_of past p
 
 -- the tick at which the link was met
@@ -48,14 +49,14 @@ met_at (_ ∷ past) place = met_at past place
 abbrev pub greeting : List Entry → List ℕ
 greeting [] = []
 greeting (Met place ∷ past) = greeting past ++ place ∷ []
-greeting (Up p place name ∷ past) = without (greeting past) place
+greeting (Up p place limit name ∷ past) = without (greeting past) place
 greeting (NoUp place miss ∷ past) = without (greeting past) place
 greeting (_ ∷ past) = greeting past
 
 -- a link of the run is met once, and after that comes up or is missed, once; a lane comes up unmet
 abbrev pub keeps_places : ℕ → ℕ → List Entry → Entry → Bool
 keeps_places first opened past (Met place) = nat_le first place && nat_lt place opened && is_none (met_at past place)
-keeps_places first opened past (Up p place name) = (place == lane_place) || has (greeting past) place
+keeps_places first opened past (Up p place limit name) = (place == lane_place) || has (greeting past) place
 keeps_places first opened past (NoUp place miss) = has (greeting past) place
 keeps_places first opened past _ = true
 
@@ -143,9 +144,18 @@ HoldsAll z past p link = (framing : Framing) × (link.scheme ≡ scheme_under fr
 
 -- ---- Limits, memory, other links
 
--- the maximum length of a body
-abbrev pub max_body : ℕ
-max_body = 1048576
+-- the receive limit of a pipe that has no link of a net: none
+abbrev pub no_limit : ℕ
+no_limit = 2 ^ 32 - 1
+
+-- a pipe that has no link of a net comes up without a limit
+abbrev pub keeps_limits : List Entry → Entry → Bool
+keeps_limits past (Up p place limit name) = not (place == lane_place) || (limit == no_limit)
+keeps_limits past _ = true
+
+-- the pipe's receive limit is one of these, and this holds of it
+abbrev pub IsLimited : List ℕ → List Entry → ℕ → (ℕ → Type 0) → Type 0
+IsLimited limits past p Fact = (max : ℕ) × (limit_of past p ≡ Some max) × IsAmong max limits × Fact max
 
 -- a link was missed when out of memory
 abbrev pub has_dry_miss : List Entry → Bool
@@ -178,8 +188,9 @@ times_out_rightly past _ = true
 
 -- ---- All of it
 
--- what holds of the links that the net handed out in the run: those from `first` on, below `opened`
-pub record Records (ways : Ways) (z : Setting) (max first opened : ℕ) (back : FinMap nat_cmp LinkView) (record_ : List (Turn Entry)) : Type 0 where
+-- what holds of the links that the net handed out in the run: those from `first` on, below `opened`; `limits` are the
+-- receive limits of its ends
+pub record Records (ways : Ways) (z : Setting) (limits : List ℕ) (first opened : ℕ) (back : FinMap nat_cmp LinkView) (record_ : List (Turn Entry)) : Type 0 where
   -- each is met once, and comes up or is missed at most once; it was given back, shut
   pub places : IsTrue (each (keeps_places first opened) (past_of record_))
   pub few : first < opened → opened ≤ lane_place
@@ -189,5 +200,6 @@ pub record Records (ways : Ways) (z : Setting) (max first opened : ℕ) (back : 
   pub missed : Each (HasCause ways z record_ back) (past_of record_)
   pub left_ : (place : ℕ) → has (greeting (past_of record_)) place ≡ true → IsBack back place (IsUndone ways z record_)
   -- a link that came up opened well, and carried its pipe's messages
-  pub came_up : (p place : ℕ) → place_of (past_of record_) p ≡ Some place → place ≢ lane_place → place < opened → IsBack back place (λ link. BeganSo ways link (λ way. HasOpened ways way link) × IsLinkOf z max (past_of record_) p link)
+  pub came_up : (p place : ℕ) → place_of (past_of record_) p ≡ Some place → place ≢ lane_place → place < opened → IsBack back place (λ link. BeganSo ways link (λ way. HasOpened ways way link) × IsLimited limits (past_of record_) p (λ max. IsLinkOf z max (past_of record_) p link))
+  pub lanes : IsTrue (each keeps_limits (past_of record_))
   pub due : IsTrue (each times_out_rightly (past_of record_))

@@ -1,5 +1,5 @@
 -- Which listener brought each link that is being opened, and how many each listener has.
-use Rattle.std.specs.Prelude.{◌≡◌, ◌≤◌, ◌<◌, ◌+◌, ◌*◌, ◌-◌, ◌==◌, ◌++◌, ◌⊎◌, min, nat_le, nat_lt, ℕ, zero, suc, ⊤, Bool, true, false, if◌then◌else◌, List, [], ◌∷◌, length, get_or, Option, Some, None}
+use Rattle.std.specs.Prelude.{◌≡◌, ◌≤◌, ◌<◌, ◌+◌, ◌*◌, ◌-◌, ◌==◌, ◌++◌, ◌⊎◌, min, nat_le, nat_lt, ℕ, zero, suc, ⊤, Bool, false, if◌then◌else◌, List, [], ◌∷◌, length, get_or, Option, Some, None}
 use Rattle.std.specs.List.{AllByRecursion}
 use Rattle.sp_ends.specs.declared.newcomer.Newcomer.{Newcomer}
 use Rattle.sp_ends.specs.EndViews.{LinkEndsView}

@@ -14,7 +14,7 @@ use Rattle.sp_lane.specs.LaneWires.{LaneWireView}
 use Rattle.core_state.specs.declared.causes.AttachError.{AttachError}
 use Rattle.sp_ends.specs.DialMoments.{moment, IsDueAt}
 use Rattle.sp_ends.specs.EndViews.{LinkEndsView, Beginning}
-use Rattle.sp_ends.specs.RunLinks.{EndsStand, places}
+use Rattle.sp_ends.specs.RunLinks.{EndsStand}
 use Rattle.sp_lane.specs.Registry.{Registry, ListenerView, Dials, names}
 use Rattle.sp_ends.specs.SocketSteps.{Quietly}
 use Rattle.sp_core.specs.Attaching.{RefusedAttach}

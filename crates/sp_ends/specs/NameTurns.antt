@@ -1,9 +1,8 @@
 -- What happens to names within the process in a turn of the ends.
-use Rattle.std.specs.Prelude.{◌≡◌, ◌≤◌, ◌<◌, ◌*◌, ◌⊎◌, ℕ, ⊤, true, false, List, [], ◌∷◌, length, Option, Some, None}
+use Rattle.std.specs.Prelude.{◌≡◌, ◌≤◌, ◌*◌, ◌⊎◌, ℕ, ⊤, true, false, List, [], ◌∷◌, length, Option, Some, None}
 use Rattle.sp_base.specs.declared.role.Role.{Role}
 use Rattle.sp_history.specs.Lists.{has}
 use Rattle.sp_history.specs.Past.{past_of, up, untaken, now, ups}
-use Rattle.sp_ends.specs.LinkRecords.{greeting}
 use Rattle.sp_ends.specs.declared.name_dialer.NameDialer.{NameDialer}
 use Rattle.sp_socket.specs.Singles.{SingleView}
 use Rattle.sp_lane.specs.Registry.{Registry}

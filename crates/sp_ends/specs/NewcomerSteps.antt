@@ -4,7 +4,6 @@ use Rattle.turn_lock.specs.declared.turn.Turn.{Turn}
 use Rattle.sp_base.specs.Views.{LinkView, NetView}
 use Rattle.sp_base.specs.declared.role.Role.{Role}
 use Rattle.sp_history.specs.declared.entry.Entry.{Entry}
-use Rattle.sp_history.specs.declared.entry.Entry.TheVariants.{Up}
 use Rattle.sp_history.specs.declared.setting.Setting.{Setting}
 use Rattle.sp_history.specs.Past.{now, past_of}
 use Rattle.sp_history.specs.declared.entry.Miss.{Miss}
@@ -12,7 +11,6 @@ use Rattle.sp_ends.specs.declared.newcomer.Newcomer.{Newcomer}
 use Rattle.sp_links.specs.declared.way.Way.{Way}
 use Rattle.sp_links.specs.Going.{IsUnderWay, IsFresh, WaitsFor}
 use Rattle.sp_base.specs.Steps.{AfterGiveBack}
-use Rattle.sp_base.specs.declared.error.NoMemory.{NoMemory}
 use Rattle.sp_history.specs.declared.entry.Miss.TheVariants as misses
 use Rattle.sp_links.specs.declared.opening.Progress.{Progress}
 use Rattle.sp_links.specs.declared.opening.Progress.TheVariants as progress
@@ -22,6 +20,7 @@ use Rattle.core_state.specs.declared.causes.AttachError.{AttachError}
 use Rattle.core_state.specs.declared.causes.AttachError.TheVariants as refused
 use Rattle.sp_ends.specs.declared.greeting.NewcomerFate.{NewcomerFate}
 use Rattle.sp_ends.specs.declared.greeting.NewcomerFate.TheVariants as fates
+use Rattle.sp_links.specs.Origins.{IsAmong}
 use Rattle.sp_ends.specs.EndViews.{Beginning}
 use Rattle.sp_ends.specs.RunLinks.{LinksStand, HandStands, IsOfRun, IsCauseOf}
 use Rattle.sp_socket.specs.Singles.{SingleView}
@@ -29,11 +28,12 @@ use Rattle.sp_links.specs.declared.opening.Opening.{Opening}
 use Rattle.sp_ends.specs.LinkRecords.{has_dry_miss}
 
 -- a newcomer over this link
-pub record IsNewcomer {L : Type 0} (seen : L → LinkView) (link : L) (role : Role) (way : Way) (met : ℕ) (from : Option ℕ) (n : Newcomer L) : Type 0 where
+pub record IsNewcomer {L : Type 0} (seen : L → LinkView) (link : L) (role : Role) (way : Way) (met : ℕ) (from : Option ℕ) (max : ℕ) (n : Newcomer L) : Type 0 where
   pub fresh : IsFresh seen link role way n.opening
   pub under_way : IsUnderWay seen n.opening
   pub met_is : n.met ≡ met
   pub from_is : n.from ≡ from
+  pub max_is : n.max ≡ max
 
 -- what is to be done with a link whose greetings have this result, met and asked at these ticks
 abbrev pub DecidedFor : NewcomerDecision → Progress → ℕ → ℕ → Type 0
@@ -102,14 +102,14 @@ abbrev pub IsInHand : {L : Type 0} → (L → LinkView) → L → SingleView →
 IsInHand {L} seen link s net =
     (start : Beginning) × (ns : List (Newcomer L)) × (k : ℕ) × HandStands seen s.setting start s.seen net ns k (seen link)
 
--- they stand with this one in hand, which is open and the run's
-abbrev pub IsOpenInHand : {L : Type 0} → (L → LinkView) → Opening L → SingleView → NetView → Type 0
-IsOpenInHand {L} seen opening s net =
-    (start : Beginning) × (ns : List (Newcomer L)) × (k : ℕ) × HandStands seen s.setting start s.seen net ns k (seen opening.link) × IsOfRun seen start.origins s.setting opening
+-- they stand with this one in hand, which is open and the run's, with the receive limit of an end
+abbrev pub IsOpenInHand : {L : Type 0} → (L → LinkView) → Opening L → ℕ → SingleView → NetView → Type 0
+IsOpenInHand {L} seen opening max s net =
+    (start : Beginning) × (ns : List (Newcomer L)) × (k : ℕ) × HandStands seen s.setting start s.seen net ns k (seen opening.link) × IsOfRun seen start.origins s.setting opening × IsAmong max start.origins.limits
 
-abbrev pub AttachesTo : {L : Type 0} → (L → LinkView) → Opening L → NewcomerFate L → SingleView → SingleView → NetView → NetView → Type 0
-AttachesTo {L} seen opening fate s s' net net' =
-    (start : Beginning) (ns : List (Newcomer L)) (k : ℕ) → HandStands seen s.setting start s.seen net ns k (seen opening.link) → IsOfRun seen start.origins s.setting opening → FateStands seen fate s'.setting start s'.seen net' ns k
+abbrev pub AttachesTo : {L : Type 0} → (L → LinkView) → Opening L → ℕ → NewcomerFate L → SingleView → SingleView → NetView → NetView → Type 0
+AttachesTo {L} seen opening max fate s s' net net' =
+    (start : Beginning) (ns : List (Newcomer L)) (k : ℕ) → HandStands seen s.setting start s.seen net ns k (seen opening.link) → IsOfRun seen start.origins s.setting opening → IsAmong max start.origins.limits → FateStands seen fate s'.setting start s'.seen net' ns k
 
 -- where this is the cause, the links of the run stand without it
 abbrev pub MissesAs : {L : Type 0} → (L → LinkView) → L → Miss → SingleView → SingleView → NetView → NetView → Type 0

@@ -16,13 +16,13 @@ use Rattle.sp_history.specs.declared.entry.Entry.{Entry}
 use Rattle.sp_history.specs.declared.entry.Entry.TheVariants.{Up}
 use Rattle.sp_history.specs.declared.setting.Setting.{Setting}
 use Rattle.sp_history.specs.Lists.{has}
-use Rattle.sp_history.specs.Past.{past_of, up, untaken, down_for, is_cleared, outs}
+use Rattle.sp_history.specs.Past.{past_of, up, untaken, down_for, is_cleared, outs, limit_of}
 use Rattle.sp_history.specs.declared.entry.Why.{Why}
 use Rattle.sp_history.specs.declared.entry.Miss.{Miss}
 use Rattle.sp_links.specs.Ways.{peer_number, HasOpened, BeganSo}
 use Rattle.sp_ends.specs.Entries.{each}
 use Rattle.sp_ends.specs.LinkRecords.{lane_place, place_of, met_at, greeting, keeps_places, Each, IsBack, HasCause, MissedFor, Carries, WentDownFor}
-use Rattle.sp_ends.specs.LinkRecords.{KeepsOthers, max_body}
+use Rattle.sp_ends.specs.LinkRecords.{KeepsOthers, no_limit}
 use Rattle.sp_ends.specs.LinkCounts.{CanRise, greeting_ticks, IsAsked, IsRead, ticks_where, has_room}
 use Rattle.sp_history.specs.Found.{ticks}
 use Rattle.sp_ends.specs.declared.newcomer.Newcomer.{Newcomer}
@@ -59,6 +59,7 @@ pub record IsProgressing {L : Type 0} (seen : L → LinkView) (o : Origins) (z :
   pub under_way : IsUnderWay seen n.opening
   pub of_run : IsOfRun seen o z n.opening
   pub met : met_at past (seen n.opening.link).place ≡ Some n.met
+  pub limit : IsAmong n.max o.limits
   pub asked : CanRise (seen n.opening.link).idles → CanRise (seen n.opening.link).stalls → greeting_ticks past (seen n.opening.link).place ≤ (seen n.opening.link).idles + (seen n.opening.link).stalls + slack
 
 -- the same for a link that was greeted in this round
@@ -96,14 +97,14 @@ name_number schemes.Ws = opened_number (scheme_number schemes.Ws)
 name_number schemes.Inproc = scheme_number schemes.Inproc
 name_number schemes.Ipc = scheme_number schemes.Ipc
 
--- the name of a wire over the link with this place. While the link was in progress it returned at least once a tick,
--- except for one tick, that nothing was there or that it took nothing
-pub record IsNameOver (o : Origins) (z : Setting) (past : List Entry) (place : ℕ) (numbers : List ℕ) : Type 0 where
+-- the name of a wire over the link with this place, with this receive limit. While the link was in progress it returned
+-- at least once a tick, except for one tick, that nothing was there or that it took nothing
+pub record IsNameOver (o : Origins) (z : Setting) (past : List Entry) (place max : ℕ) (numbers : List ℕ) : Type 0 where
   pub scheme : Scheme
   pub spent : ℕ
   pub own : Option ℕ
   pub peer : Option ℕ
-  pub is : numbers ≡ numbers_of (OverLink place max_body (name_number scheme) spent own peer)
+  pub is : numbers ≡ numbers_of (OverLink place max (name_number scheme) spent own peer)
   pub are : AreNumbers o z scheme own peer
   pub rounds : CanRise spent → greeting_ticks past place ≤ spent + 1
 
@@ -111,17 +112,21 @@ pub record IsNameOver (o : Origins) (z : Setting) (past : List Entry) (place : �
 abbrev pub IsLaneName : List ℕ → Type 0
 IsLaneName numbers = (out : List ℕ) × (inward : List ℕ) × (numbers ≡ numbers_of (OverLanes out inward))
 
--- a pipe has the name of a wire over its link; at the place of lanes, and only there, it has that of a wire over lanes
+-- a pipe has the receive limit of an end, and the name of a wire over its link with this limit; at the place of lanes,
+-- and only there, it has no limit, and the name of a wire over lanes
 abbrev pub IsNamed : Origins → Setting → List Entry → Entry → Type 0
-IsNamed o z past (Up p place name) =
-    (place ≢ lane_place) × IsNameOver o z past place name.numbers ⊎ (place ≡ lane_place) × IsLaneName name.numbers
+IsNamed o z past (Up p place limit name) =
+    (place ≢ lane_place) × IsAmong limit o.limits × IsNameOver o z past place limit name.numbers ⊎ (place ≡ lane_place) × (limit ≡ no_limit) × IsLaneName name.numbers
 IsNamed o z past _ = ⊤
 
 -- a link that carried this pipe
 pub record HasCarried (o : Origins) (z : Setting) (h : List (Turn Entry)) (p : ℕ) (link : LinkView) : Type 0 where
+  pub max : ℕ
+  pub limit : limit_of (past_of h) p ≡ Some max
+  pub limit_is : IsAmong max o.limits
   pub opened : BeganSo (run_ways z.role o) link (λ way. HasOpened (run_ways z.role o) way link)
   pub carries : (framing : Framing) → link.scheme ≡ scheme_under framing → Carries framing z (past_of h) p link
-  pub went_down : (framing : Framing) → link.scheme ≡ scheme_under framing → (why : Why) → down_for (past_of h) p ≡ Some why → WentDownFor framing z max_body (past_of h) p why link
+  pub went_down : (framing : Framing) → link.scheme ≡ scheme_under framing → (why : Why) → down_for (past_of h) p ≡ Some why → WentDownFor framing z max (past_of h) p why link
   pub read : IsRead h p link
   -- over TCP and IPC, where all was cleared, all that was put is written
   pub whole : (framing : Framing) → link.scheme ≡ scheme_under framing → is_cleared (past_of h) p ≡ true → Told link.written (λ written. written ≡ stream_text framing (role_number z.role) (outs (past_of h) p))
@@ -154,7 +159,7 @@ IsCarried o z h net p place =
 
 -- a pipe comes up over a link in progress, or over lanes
 abbrev pub is_over_link : List Entry → Entry → Bool
-is_over_link past (Up p place name) = (place == lane_place) || has (greeting past) place
+is_over_link past (Up p place limit name) = (place == lane_place) || has (greeting past) place
 is_over_link past _ = true
 
 -- what holds of the links of the run other than those in progress
@@ -219,11 +224,13 @@ pub record NetStands (start : Beginning) (asked dialed : List Entry) (net : NetV
 
 -- ---- All of it
 
--- the addresses and the dice of the ends are the run's
+-- the addresses, the dice and the receive limits of the ends are the run's
 pub record AreOfRun {L : Type 0} (o : Origins) (ends : LinkEndsView L) : Type 0 where
   pub listens : AllByRecursion (λ l. IsAmong l.addr o.listens) ends.listeners
   pub dials : AllByRecursion (λ d. IsAmong d.addr o.dials) ends.dialers
   pub dice : ends.dice ≡ o.dice
+  pub listen_limits : AllByRecursion (λ l. IsAmong l.max o.limits) ends.listeners
+  pub dial_limits : AllByRecursion (λ d. IsAmong d.max o.limits) ends.dialers
 
 -- between two rounds
 pub record EndsStand {L : Type 0} (seen : L → LinkView) (z : Setting) (start : Beginning) (h : List (Turn Entry)) (net : NetView) (ends : LinkEndsView L) : Type 0 where

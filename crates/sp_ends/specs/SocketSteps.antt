@@ -20,7 +20,7 @@ IsDry is_dry s = has_dry_miss (past_of s.seen) ≡ is_dry
 
 -- a lane comes up
 abbrev pub is_lane : Entry → Bool
-is_lane (Up p place name) = place == lane_place
+is_lane (Up p place limit name) = place == lane_place
 is_lane _ = false
 
 -- no lane came up between these two

@@ -13,6 +13,8 @@ pub(crate) const PAUSE: u64 = 100;
 pub struct Dialer {
     /// The address, which can be dialed.
     pub addr: Addr,
+    /// The receive limit of its links, in bytes.
+    pub max: u32,
     /// The tick from which on it may be dialed; `None` means never.
     pub next: Option<u64>,
     /// The link that it has, if it has one.
@@ -23,11 +25,12 @@ pub struct Dialer {
 
 impl Dialer {
     /// A dialer that has no link, and may be dialed at once.
-    pub fn new(addr: Addr) -> Dialer
-        ensures { (result.addr ≡ addr) × (result.next ≡ Some 0) × (result.place ≡ None) × (result.tries ≡ 0) }
+    pub fn new(addr: Addr, max: u32) -> Dialer
+        ensures { (result.addr ≡ addr) × (result.max ≡ max) × (result.next ≡ Some 0) × (result.place ≡ None) × (result.tries ≡ 0) }
     {
         Dialer {
             addr,
+            max,
             next: Some(0),
             place: None,
             tries: 0,

@@ -39,41 +39,44 @@ impl<L: Link> Ends<L> {
         })
     }
 
-    /// Listens on one more address of any kind: for TCP, IPC and WebSocket over the net, for names in `inproc`. Returns
-    /// `InUse` only where the name is already listened on there.
+    /// Listens on one more address of any kind: for TCP, IPC and WebSocket over the net, for names in `inproc`. A
+    /// message of more than `max` bytes takes its pipe down; within the process there is no limit. Returns `InUse` only
+    /// where the name is already listened on there.
     pub fn listen<N: Net<L = L>>(
         &mut self,
         net: &mut N,
         inproc: &mut Inproc,
         addr: &Addr,
+        max: u32,
     ) -> Result<(), EndError>
-        ensures { ListensAlso result addr.now self.old self.new (N.seen net.old) (N.seen net.new) inproc.old inproc.new }
+        ensures { ListensAlso result addr.now max self.old self.new (N.seen net.old) (N.seen net.new) inproc.old inproc.new }
     {
         match addr {
-            Addr::Tcp { host: _, port: _ } => self.links.listen(net, addr),
+            Addr::Tcp { host: _, port: _ } => self.links.listen(net, addr, max),
             Addr::Ws {
                 host: _,
                 port: _,
                 path: _,
-            } => self.links.listen(net, addr),
-            Addr::Ipc { path: _ } => self.links.listen(net, addr),
+            } => self.links.listen(net, addr, max),
+            Addr::Ipc { path: _ } => self.links.listen(net, addr, max),
             Addr::Inproc { name } => self.names.listen(inproc, name.as_slice(), self.links.role),
         }
     }
 
-    /// Dials one more address, of any kind, from the next turn on.
-    pub fn dial(&mut self, addr: &Addr) -> Result<(), EndError>
+    /// Dials one more address, of any kind, from the next turn on. A message of more than `max` bytes takes its pipe
+    /// down; within the process there is no limit.
+    pub fn dial(&mut self, addr: &Addr, max: u32) -> Result<(), EndError>
         requires dialable { is_linked addr.now ≡ true → is_dialable addr.now ≡ true }
-        ensures { DialsAlso result addr.now self.old self.new }
+        ensures { DialsAlso result addr.now max self.old self.new }
     {
         match addr {
-            Addr::Tcp { host: _, port: _ } => self.links.dial(addr),
+            Addr::Tcp { host: _, port: _ } => self.links.dial(addr, max),
             Addr::Ws {
                 host: _,
                 port: _,
                 path: _,
-            } => self.links.dial(addr),
-            Addr::Ipc { path: _ } => self.links.dial(addr),
+            } => self.links.dial(addr, max),
+            Addr::Ipc { path: _ } => self.links.dial(addr, max),
             Addr::Inproc { name } => self.names.dial(name.as_slice()),
         }
     }

@@ -16,9 +16,6 @@ use sp_socket::{AttachError, Single};
 use std::alloc::Global;
 use std::sync::Wait;
 
-/// The maximum length of a body that is taken, in bytes.
-pub const RECV_MAX_SIZE: u32 = 1_048_576;
-
 /// The maximum time for the greetings of a link, in milliseconds.
 const GREETING_TIME: u64 = 10_000;
 
@@ -69,11 +66,17 @@ pub fn greet_one<R: Wait, N: Net, P: Proto>(
         mut opening,
         met,
         from,
+        max,
     } = newcomer;
     let progress = opening.greet(alloc);
     match decide(progress, met, now) {
-        NewcomerDecision::Stays => NewcomerFate::Stays(Newcomer { opening, met, from }),
-        NewcomerDecision::Attach => attach(alloc, rt, net, single, opening),
+        NewcomerDecision::Stays => NewcomerFate::Stays(Newcomer {
+            opening,
+            met,
+            from,
+            max,
+        }),
+        NewcomerDecision::Attach => attach(alloc, rt, net, single, opening, max),
         NewcomerDecision::Miss(why) => {
             miss(rt, net, single, opening.into_link(), why);
             NewcomerFate::Missed(why)
@@ -101,18 +104,19 @@ fn decide(progress: Progress, met: Tick, now: Tick) -> NewcomerDecision
     }
 }
 
-// Makes a pipe of a link whose opening is done.
+// Makes a pipe of a link whose opening is done, with this receive limit.
 fn attach<R: Wait, N: Net, P: Proto>(
     alloc: Global,
     rt: &R,
     net: &mut N,
     single: &mut Single<P, EndWire<N::L>>,
     opening: Opening<N::L>,
+    max: u32,
 ) -> NewcomerFate<N::L>
     requires opened { IsOpened N.L.seen opening }
-    requires stands { IsOpenInHand N.L.seen opening single.old (N.seen net.old) }
+    requires stands { IsOpenInHand N.L.seen opening max single.old (N.seen net.old) }
     requires sound { IsSound single.old }
-    ensures stands { AttachesTo N.L.seen opening result single.old single.new (N.seen net.old) (N.seen net.new) }
+    ensures stands { AttachesTo N.L.seen opening max result single.old single.new (N.seen net.old) (N.seen net.new) }
     ensures sound { IsSound single.new }
     ensures quietly { Quietly single.old single.new }
     ensures no_lane { NoLane single.old single.new }
@@ -122,12 +126,12 @@ fn attach<R: Wait, N: Net, P: Proto>(
     ensures out { IsOut result }
 {
     let place = opening.link.place();
-    match EndWire::over(alloc, opening, RECV_MAX_SIZE) {
+    match EndWire::over(alloc, opening, max) {
         Err((NoMemory, link)) => {
             miss(rt, net, single, link, Miss::NoMemory);
             NewcomerFate::Missed(Miss::NoMemory)
         }
-        Ok(wire) => match single.attach(rt, wire, place) {
+        Ok(wire) => match single.attach(rt, wire, place, max) {
             Ok(_) => NewcomerFate::Up,
             Err((why, wire)) => {
                 let Some(link) = wire.into_link() else {

@@ -33,5 +33,4 @@ mod turn;
 
 pub use ends::Ends;
 pub use error::EndError;
-pub use greeting::RECV_MAX_SIZE;
 pub use turn::EndsTurn;

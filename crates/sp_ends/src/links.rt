@@ -72,10 +72,15 @@ impl<L: Link> LinkEnds<L> {
         })
     }
 
-    /// Listens on one more address, of TCP, IPC or WebSocket.
-    pub fn listen<N: Net<L = L>>(&mut self, net: &mut N, addr: &Addr) -> Result<(), EndError>
+    /// Listens on one more address, of TCP, IPC or WebSocket, with this receive limit for its links.
+    pub fn listen<N: Net<L = L>>(
+        &mut self,
+        net: &mut N,
+        addr: &Addr,
+        max: u32,
+    ) -> Result<(), EndError>
         requires linked { is_linked addr.now ≡ true }
-        ensures { ListensLink result addr.now self.old self.new (N.seen net.old) (N.seen net.new) }
+        ensures { ListensLink result addr.now max self.old self.new (N.seen net.old) (N.seen net.new) }
     {
         if self.listeners.reserve(1).is_err() || self.greetings.reserve(1).is_err() {
             return Err(EndError::NoMemory);
@@ -93,22 +98,26 @@ impl<L: Link> LinkEnds<L> {
         match net.listen(addr) {
             Listened::Failed => Err(EndError::Fault),
             Listened::At(at) => {
-                self.listeners.push_reserved(Listener { at, addr: copy });
+                self.listeners.push_reserved(Listener {
+                    at,
+                    addr: copy,
+                    max,
+                });
                 self.greetings.push_reserved(0);
                 Ok(())
             }
         }
     }
 
-    /// Dials one more address, of TCP, IPC or WebSocket, from the next turn on.
-    pub fn dial(&mut self, addr: &Addr) -> Result<(), EndError>
+    /// Dials one more address, of TCP, IPC or WebSocket, from the next turn on, with this receive limit for its links.
+    pub fn dial(&mut self, addr: &Addr, max: u32) -> Result<(), EndError>
         requires dialable { is_dialable addr.now ≡ true }
-        ensures { DialsLink result addr.now self.old self.new }
+        ensures { DialsLink result addr.now max self.old self.new }
     {
         let Ok(copy) = copy_of(self.alloc, addr) else {
             return Err(EndError::NoMemory);
         };
-        match self.dialers.push(Dialer::new(copy)) {
+        match self.dialers.push(Dialer::new(copy, max)) {
             Ok(()) => Ok(()),
             Err(_) => Err(EndError::NoMemory),
         }

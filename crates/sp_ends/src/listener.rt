@@ -9,4 +9,6 @@ pub struct Listener {
     pub at: u32,
     /// It is reached over links of a net.
     pub addr: Addr,
+    /// The receive limit of its links, in bytes.
+    pub max: u32,
 }

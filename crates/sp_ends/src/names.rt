@@ -22,6 +22,9 @@ pub const LINKS_A_TURN: u32 = 16;
 /// The place of a pipe that has no link of a net.
 const LANE_PLACE: u32 = u32::MAX;
 
+/// The receive limit of such a pipe: none.
+const NO_LIMIT: u32 = u32::MAX;
+
 /// Names that are listened on (nng_listener(5)), and names that are dialed (nng_dialer(5)).
 #[derive(Drop)]
 pub struct NameEnds {
@@ -209,7 +212,7 @@ fn attach_lane<R: Wait, L: Link, P: Proto>(
     ensures links { KeepsLinks L.seen single.old single.new }
     ensures came { CameUp result single.old single.new }
 {
-    match single.attach(rt, EndWire::Lane(lane), LANE_PLACE) {
+    match single.attach(rt, EndWire::Lane(lane), LANE_PLACE, NO_LIMIT) {
         Ok(pipe) => Some(pipe),
         Err((_, wire)) => match leave_wire(rt, wire) {
             None => None,

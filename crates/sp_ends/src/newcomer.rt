@@ -16,6 +16,8 @@ pub struct Newcomer<L: Link> {
     pub met: Tick,
     /// The listener that brought it, by its place in the list; `None` where it was dialed.
     pub from: Option<usize>,
+    /// The receive limit of that listener, or of the dialer, in bytes.
+    pub max: u32,
 }
 
 impl<L: Link> Newcomer<L> {
@@ -27,13 +29,19 @@ impl<L: Link> Newcomer<L> {
         way: Way,
         met: Tick,
         from: Option<usize>,
+        max: u32,
     ) -> Result<Newcomer<L>, (NoMemory, L)>
         requires fresh { IsNew (L.seen link).place (L.seen link) }
         requires can { CanBegin way }
-        ensures { MatchResult result (λ n. IsNewcomer L.seen link role way met from n) (λ e. e.1 ≡ link) }
+        ensures { MatchResult result (λ n. IsNewcomer L.seen link role way met from max n) (λ e. e.1 ≡ link) }
     {
         match Opening::new(alloc, link, role, way) {
-            Ok(opening) => Ok(Newcomer { opening, met, from }),
+            Ok(opening) => Ok(Newcomer {
+                opening,
+                met,
+                from,
+                max,
+            }),
             Err(refused) => Err(refused),
         }
     }
@@ -47,13 +55,14 @@ pub fn newcomer_over<L: Link>(
     way: Result<Way, NoMemory>,
     met: Tick,
     from: Option<usize>,
+    max: u32,
 ) -> Result<Newcomer<L>, (NoMemory, L)>
     requires fresh { IsNew (L.seen link).place (L.seen link) }
     requires can { IfOk way CanBegin }
-    ensures { MatchResult result (λ n. (begins : WayType) × (way ≡ Ok begins) × IsNewcomer L.seen link role begins met from n) (λ e. e.1 ≡ link) }
+    ensures { MatchResult result (λ n. (begins : WayType) × (way ≡ Ok begins) × IsNewcomer L.seen link role begins met from max n) (λ e. e.1 ≡ link) }
 {
     match way {
-        Ok(way) => Newcomer::new(alloc, link, role, way, met, from),
+        Ok(way) => Newcomer::new(alloc, link, role, way, met, from, max),
         Err(NoMemory) => Err((NoMemory, link)),
     }
 }

@@ -79,6 +79,7 @@ pub fn give_newcomers_back<N: Net>(net: &mut N, newcomers: VecDeque<Newcomer<N::
             opening,
             met: _,
             from: _,
+            max: _,
         } = newcomer;
         leave(net, opening.into_link());
     }

@@ -363,7 +363,8 @@ impl<L: Link> LinkEnds<L> {
             Linked::Failed => false,
             Linked::Got(link) => {
                 let way = self.serving(i);
-                self.meet_newcomer(rt, net, single, link, way, Some(i), now, turn);
+                let max = self.listen_limit(i);
+                self.meet_newcomer(rt, net, single, link, way, max, Some(i), now, turn);
                 true
             }
         }
@@ -375,6 +376,14 @@ impl<L: Link> LinkEnds<L> {
         ensures { (l : ListenerType) → slice_get self.now.listeners i ≡ Some l → IfOk result (λ way. way ≡ serving l.addr) }
     {
         Way::serving(self.alloc, &self.listeners[i].addr)
+    }
+
+    // The receive limit of the links that the listener at this place of the list brings.
+    fn listen_limit(&self, i: usize) -> u32
+        requires inside { i < length self.now.listeners }
+        ensures { (l : ListenerType) → slice_get self.now.listeners i ≡ Some l → result ≡ l.max }
+    {
+        self.listeners[i].max
     }
 
     // Dials each address that is due.
@@ -447,10 +456,19 @@ impl<L: Link> LinkEnds<L> {
             Linked::Begun => (),
             Linked::Failed => (),
             Linked::Got(link) => {
+                let max = self.dial_limit(i);
                 let way = self.asking(i);
-                self.meet_newcomer(rt, net, single, link, way, None, now, turn);
+                self.meet_newcomer(rt, net, single, link, way, max, None, now, turn);
             }
         }
+    }
+
+    // The receive limit of the links that the address at this place of the list gives.
+    fn dial_limit(&self, i: usize) -> u32
+        requires inside { i < length self.now.dialers }
+        ensures { (d : DialerType) → slice_get self.now.dialers i ≡ Some d → result ≡ d.max }
+    {
+        self.dialers[i].max
     }
 
     // How a link begins that the address at this place of the list has just given.
@@ -488,14 +506,15 @@ impl<L: Link> LinkEnds<L> {
         single: &mut Single<P, EndWire<L>>,
         link: L,
         way: Result<Way, NoMemory>,
+        max: u32,
         from: Option<usize>,
         now: Tick,
         turn: &mut EndsTurn,
     )
-        requires fresh { HasArrived L.seen now link way self.old (N.seen net.old) single.old }
+        requires fresh { HasArrived L.seen now link way max self.old (N.seen net.old) single.old }
         requires from { IsFromOne (length self.old.listeners) from }
         requires dry { IsDry turn.old.is_dry single.old }
-        ensures in_turn { MeetsInTurn L.seen now link way self.old self.new (N.seen net.old) (N.seen net.new) single.old single.new }
+        ensures in_turn { MeetsInTurn L.seen now link way max self.old self.new (N.seen net.old) (N.seen net.new) single.old single.new }
         ensures few { length self.new.newcomers ≤ length self.old.newcomers + 1 }
         ensures serves { Serves self.old self.new (N.seen net.old) (N.seen net.new) single.old single.new }
         ensures frees { Frees now (N.seen net.old) (N.seen net.new) self.old.dialers self.new.dialers }
@@ -507,7 +526,7 @@ impl<L: Link> LinkEnds<L> {
         let place = link.place();
         single.met(rt, place);
         let way = self.fitting(way);
-        match newcomer_over(self.alloc, link, self.role, way, now, from) {
+        match newcomer_over(self.alloc, link, self.role, way, now, from, max) {
             Ok(newcomer) => self.greet(rt, net, single, newcomer, now, turn),
             Err((NoMemory, link)) => {
                 miss(rt, net, single, link, Miss::NoMemory);

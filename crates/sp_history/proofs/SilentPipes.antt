@@ -42,9 +42,9 @@ less_off xs q p h = go (has (without xs q) p) refl
     go true e = let no : true ≡ false = sym (has_before xs q p e) ∙ h in cc
 
 off_next : (z : Setting) (k p : ℕ) (past more : List Entry) (e : Entry) → StaysDown p past more → MayCome z k more e → StaysDown p past (e ∷ more)
-off_next z k p past more (Up q place name) d a =
+off_next z k p past more (Up q place limit name) d a =
     let n : (q == p) ≡ false = new (ups more) d.came a.0 in let s = d.same in
-    record { came = let c = d.came in omega (arith, c); off = still_off (up more) q p (λ e. unlike e n) d.off; same = record { frames = s.frames; outs = s.outs; fulls = s.fulls; quiets = s.quiets; stalls = s.stalls; name = rw n s.name; last = s.last; cause = s.cause } }
+    record { came = let c = d.came in omega (arith, c); off = still_off (up more) q p (λ e. unlike e n) d.off; same = record { frames = s.frames; outs = s.outs; fulls = s.fulls; quiets = s.quiets; stalls = s.stalls; name = rw n s.name; limit = rw n s.limit; last = s.last; cause = s.cause } }
   where
     new : (m : ℕ) → p ≤ m → q ≡ m + 1 → (q == p) ≡ false
     new m l e = grind (arith, nat_tests)
@@ -53,25 +53,25 @@ off_next z k p past more (Up q place name) d a =
     unlike e n = let t : (q == p) ≡ true = grind (arith, nat_tests) in let no : true ≡ false = sym t ∙ n in cc
 off_next z k p past more (Down q why) d a =
     let n = another more p q d.off a.0 in let s = d.same in
-    record { came = d.came; off = less_off (up more) q p d.off; same = record { frames = s.frames; outs = s.outs; fulls = s.fulls; quiets = s.quiets; stalls = s.stalls; name = s.name; last = s.last; cause = rw n s.cause } }
+    record { came = d.came; off = less_off (up more) q p d.off; same = record { frames = s.frames; outs = s.outs; fulls = s.fulls; quiets = s.quiets; stalls = s.stalls; name = s.name; limit = s.limit; last = s.last; cause = rw n s.cause } }
 off_next z k p past more (Frame q b) d a =
     let n = another more p q d.off a.0 in let s = d.same in
-    record { came = d.came; off = d.off; same = record { frames = rw n s.frames; outs = s.outs; fulls = s.fulls; quiets = s.quiets; stalls = s.stalls; name = s.name; last = rw n s.last; cause = s.cause } }
+    record { came = d.came; off = d.off; same = record { frames = rw n s.frames; outs = s.outs; fulls = s.fulls; quiets = s.quiets; stalls = s.stalls; name = s.name; limit = s.limit; last = rw n s.last; cause = s.cause } }
 off_next z k p past more (Out q b) d a =
     let n = another more p q d.off a in let s = d.same in
-    record { came = d.came; off = d.off; same = record { frames = s.frames; outs = rw n s.outs; fulls = s.fulls; quiets = s.quiets; stalls = s.stalls; name = s.name; last = s.last; cause = s.cause } }
+    record { came = d.came; off = d.off; same = record { frames = s.frames; outs = rw n s.outs; fulls = s.fulls; quiets = s.quiets; stalls = s.stalls; name = s.name; limit = s.limit; last = s.last; cause = s.cause } }
 off_next z k p past more (Full q) d a =
     let n = another more p q d.off a in let s = d.same in
-    record { came = d.came; off = d.off; same = record { frames = s.frames; outs = s.outs; fulls = rw n s.fulls; quiets = s.quiets; stalls = s.stalls; name = s.name; last = s.last; cause = s.cause } }
+    record { came = d.came; off = d.off; same = record { frames = s.frames; outs = s.outs; fulls = rw n s.fulls; quiets = s.quiets; stalls = s.stalls; name = s.name; limit = s.limit; last = s.last; cause = s.cause } }
 off_next z k p past more (Quiet q) d a =
     let n = another more p q d.off a.0 in let s = d.same in
-    record { came = d.came; off = d.off; same = record { frames = s.frames; outs = s.outs; fulls = s.fulls; quiets = rw n s.quiets; stalls = s.stalls; name = s.name; last = s.last; cause = s.cause } }
+    record { came = d.came; off = d.off; same = record { frames = s.frames; outs = s.outs; fulls = s.fulls; quiets = rw n s.quiets; stalls = s.stalls; name = s.name; limit = s.limit; last = s.last; cause = s.cause } }
 off_next z k p past more (Stall q) d a =
     let n = another more p q d.off a in let s = d.same in
-    record { came = d.came; off = d.off; same = record { frames = s.frames; outs = s.outs; fulls = s.fulls; quiets = s.quiets; stalls = rw n s.stalls; name = s.name; last = s.last; cause = s.cause } }
+    record { came = d.came; off = d.off; same = record { frames = s.frames; outs = s.outs; fulls = s.fulls; quiets = s.quiets; stalls = rw n s.stalls; name = s.name; limit = s.limit; last = s.last; cause = s.cause } }
 off_next z k p past more e d a =
     let s = d.same in
-    record { came = d.came; off = d.off; same = record { frames = s.frames; outs = s.outs; fulls = s.fulls; quiets = s.quiets; stalls = s.stalls; name = s.name; last = s.last; cause = s.cause } }
+    record { came = d.came; off = d.off; same = record { frames = s.frames; outs = s.outs; fulls = s.fulls; quiets = s.quiets; stalls = s.stalls; name = s.name; limit = s.limit; last = s.last; cause = s.cause } }
 
 off_turn : (z : Setting) (k p : ℕ) (past more es : List Entry) → StaysDown p past more → Follows z k more es → StaysDown p past (onto es more)
 off_turn z k p past more [] d f = d
@@ -83,7 +83,7 @@ off_all z p past more (t ∷ h) d l = off_all z p past (onto t.entries more) h (
 
 here : (z : Setting) (p : ℕ) (past : List Entry) (h : List (Turn Entry)) → LegalFrom z past h → p ≤ ups past → has (up past) p ≡ false → StaysDown p past (past_from past h)
 here z p past h l came off =
-    off_all z p past past h (record { came = came; off = off; same = record { frames = refl; outs = refl; fulls = refl; quiets = refl; stalls = refl; name = refl; last = refl; cause = refl } }) l
+    off_all z p past past h (record { came = came; off = off; same = record { frames = refl; outs = refl; fulls = refl; quiets = refl; stalls = refl; name = refl; limit = refl; last = refl; cause = refl } }) l
 
 pub down_is_silent : (z : Setting) (past : List Entry) (turns : List (Turn Entry)) (p : ℕ) → LegalFrom z past turns → p ≤ ups past → has (up past) p ≡ false → SameOfPipe p past (past_from past turns)
 down_is_silent z past turns p l came off = (here z p past turns l came off).same

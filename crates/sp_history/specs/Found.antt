@@ -11,7 +11,7 @@ use Rattle.sp_history.specs.declared.parts.LastOut.{LastOut}
 use Rattle.sp_history.specs.declared.parts.LiveRequest.{LiveRequest}
 use Rattle.sp_history.specs.declared.setting.Setting.{Setting}
 use Rattle.sp_history.specs.Lists.{same_op}
-use Rattle.sp_history.specs.Past.{frames, outs, fulls, quiets, stalls, name_of, last_frame, down_for, caller_of, begins}
+use Rattle.sp_history.specs.Past.{frames, outs, fulls, quiets, stalls, name_of, limit_of, last_frame, down_for, caller_of, begins}
 use Rattle.sp_history.specs.Once.{took_count}
 use Rattle.sp_history.specs.Legal.{is_free}
 
@@ -113,6 +113,7 @@ pub record SameOfPipe (p : ℕ) (past more : List Entry) : Type 0 where
   pub quiets : quiets more p ≡ quiets past p
   pub stalls : stalls more p ≡ stalls past p
   pub name : name_of more p ≡ name_of past p
+  pub limit : limit_of more p ≡ limit_of past p
   pub last : last_frame more p ≡ last_frame past p
   pub cause : down_for more p ≡ down_for past p
 

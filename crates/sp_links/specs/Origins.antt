@@ -9,11 +9,13 @@ use Rattle.sp_links.specs.declared.way.Way.{Way}
 use Rattle.sp_links.specs.declared.way.Way.TheVariants as ways
 use Rattle.sp_links.specs.Openings.{openings}
 
--- the addresses at which it listens, those that it dials, and the number from which the keys are made
+-- the addresses at which it listens, those that it dials, the number from which the keys are made, and the receive limits
+-- of its ends
 pub record Origins : Type 0 where
   pub listens : List Addr
   pub dials : List Addr
   pub dice : ℕ
+  pub limits : List ℕ
 
 abbrev pub IsAmong : {A : Type 0} → A → List A → Type 0
 IsAmong x [] = ⊥

@@ -1,6 +1,6 @@
 -- What stands before the first turn, and with one end more.
 use Rattle.std.proofs.Common.{◌≡◌, refl, ap, sym, ◌∙◌, subst, inl, inr, List, [], ◌∷◌, ◌++◌, ℕ, zero, suc, ◌+◌, ◌≤◌, ◌<◌, true, false, arith, rules, length, Option, Some, None}
-use Rattle.std.specs.Prelude.{Result, Ok, Err, slice_index_or}
+use Rattle.std.specs.Prelude.{Result, Ok, Err, slice_index_or, map}
 use Rattle.std.specs.List.{AllByRecursion}
 use Rattle.std.specs.FinMap.{FinMap, get, insert, gets}
 use Rattle.std.specs.Ordering.{nat_cmp}
@@ -29,7 +29,7 @@ use Rattle.sp_ends.specs.EndsTurns.{addrs_of}
 use Rattle.sp_node.specs.declared.error.EndsError.{EndsError}
 use Rattle.sp_node.specs.declared.error.EndsError.TheVariants as refusals
 use Rattle.sp_node.specs.Nodes.{NodeStands}
-use Rattle.sp_node.specs.NewNodes.{NewNodeView, count_of, listens_of, origins_of, IsFreshDialer, IsNewOn, IsNewNode}
+use Rattle.sp_node.specs.NewNodes.{NewNodeView, count_of, listens_of, limits_of, origins_of, IsFreshDialer, IsNewOn, IsNewNode}
 use Rattle.sp_node.specs.MoreEnds.{Listens, Dials, MayDial, OfText, ReadsAddress, error_of}
 
 -- ---- The addresses are those of the ends
@@ -42,9 +42,26 @@ among_dials : (all : List Addr) (ds : List Dialer) → ((a : Addr) → IsAmong a
 among_dials all [] f = tt
 among_dials all (d ∷ ds) f = (f d.addr (inl refl), among_dials all ds (λ a x. f a (inr x)))
 
+limits_listen : (all : List ℕ) (ls : List Listener) → ((m : ℕ) → IsAmong m (map (λ (l : Listener). l.max) ls) → IsAmong m all) → AllByRecursion (λ (l : Listener). IsAmong l.max all) ls
+limits_listen all [] f = tt
+limits_listen all (l ∷ ls) f = (f l.max (inl refl), limits_listen all ls (λ m x. f m (inr x)))
+
+limits_dial : (all : List ℕ) (ds : List Dialer) → ((m : ℕ) → IsAmong m (map (λ (d : Dialer). d.max) ds) → IsAmong m all) → AllByRecursion (λ (d : Dialer). IsAmong d.max all) ds
+limits_dial all [] f = tt
+limits_dial all (d ∷ ds) f = (f d.max (inl refl), limits_dial all ds (λ m x. f m (inr x)))
+
+among_left : (m : ℕ) (xs ys : List ℕ) → IsAmong m xs → IsAmong m (xs ++ ys)
+among_left m [] ys x = absurd x
+among_left m (n ∷ xs) ys (inl x) = inl x
+among_left m (n ∷ xs) ys (inr x) = inr (among_left m xs ys x)
+
+among_right : (m : ℕ) (xs ys : List ℕ) → IsAmong m ys → IsAmong m (xs ++ ys)
+among_right m [] ys x = x
+among_right m (n ∷ xs) ys x = inr (among_right m xs ys x)
+
 of_own : {L : Type 0} (e : LinkEndsView L) → AreOfRun (origins_of e) e
 of_own e =
-    record { listens = among_listens (listens_of e.listeners) e.listeners (λ a x. x); dials = among_dials (addrs_of e.dialers) e.dialers (λ a x. x); dice = refl }
+    record { listens = among_listens (listens_of e.listeners) e.listeners (λ a x. x); dials = among_dials (addrs_of e.dialers) e.dialers (λ a x. x); dice = refl; listen_limits = limits_listen (limits_of e) e.listeners (λ m x. among_left m (map (λ (l : Listener). l.max) e.listeners) _ x); dial_limits = limits_dial (limits_of e) e.dialers (λ m x. among_right m (map (λ (l : Listener). l.max) e.listeners) _ x) }
 
 -- ---- What stands before the first turn
 
@@ -191,8 +208,8 @@ names_more : (reg : Registry) (l : ListenerView) → names (reg ++ l ∷ []) ≡
 names_more [] l = refl
 names_more (x ∷ reg) l = ap (λ (r : List (List ℕ)). x.name ∷ r) (names_more reg l)
 
-listens_new : {L : Type 0} (first : NetView) (z : Setting) (e e' : LinkEndsView L) (net net' : NetView) (addr : Addr) → is_linked addr ≡ true → ListensLink (Ok tt) addr e e' net net' → IsNewOn first z e net → IsNewOn first z e' net'
-listens_new first z e e' net net' addr linked (l, same, is, at) n =
+listens_new : {L : Type 0} (first : NetView) (z : Setting) (e e' : LinkEndsView L) (net net' : NetView) (addr : Addr) (max : ℕ) → is_linked addr ≡ true → ListensLink (Ok tt) addr max e e' net net' → IsNewOn first z e net → IsNewOn first z e' net'
+listens_new first z e e' net net' addr max linked (l, same, limit, is, at) n =
     subst (λ (x : LinkEndsView _). IsNewOn first z x net') (sym is) (record {
       role = n.role;
       none = n.none;
@@ -204,8 +221,8 @@ listens_new first z e e' net net' addr linked (l, same, is, at) n =
       faults = (let i = at.faults in let j = n.faults in omega (arith, i, j));
     })
 
-listens_count : {L : Type 0} (e e' : LinkEndsView L) (net net' : NetView) (addr : Addr) → ListensLink (Ok tt) addr e e' net net' → length e'.listeners + length e'.dialers ≡ length e.listeners + length e.dialers + 1
-listens_count e e' net net' addr (l, same, is, at) =
+listens_count : {L : Type 0} (e e' : LinkEndsView L) (net net' : NetView) (addr : Addr) (max : ℕ) → ListensLink (Ok tt) addr max e e' net net' → length e'.listeners + length e'.dialers ≡ length e.listeners + length e.dialers + 1
+listens_count e e' net net' addr max (l, same, limit, is, at) =
     let a = ap (λ (x : LinkEndsView _). length x.listeners) is in
     let b = ap (λ (x : LinkEndsView _). length x.dialers) is in
     let m = length_more e.listeners l in
@@ -215,8 +232,8 @@ listens_count e e' net net' addr (l, same, is, at) =
 same_new : {L : Type 0} (first : NetView) (z : Setting) (e e' : LinkEndsView L) (net net' : NetView) → e' ≡ e → net' ≡ net → IsNewOn first z e net → IsNewOn first z e' net'
 same_new first z e e' net net' a b n = subst (λ (m : NetView). IsNewOn first z e' m) (sym b) (subst (λ (x : LinkEndsView _). IsNewOn first z x net) (sym a) n)
 
-fails_new : {L : Type 0} (first : NetView) (z : Setting) (e e' : LinkEndsView L) (net net' : NetView) (addr : Addr) (why : EndError) → ListensLink (Err why) addr e e' net net' → IsNewOn first z e net → IsNewOn first z e' net'
-fails_new first z e e' net net' addr errors.Fault (same, f) n =
+fails_new : {L : Type 0} (first : NetView) (z : Setting) (e e' : LinkEndsView L) (net net' : NetView) (addr : Addr) (max : ℕ) (why : EndError) → ListensLink (Err why) addr max e e' net net' → IsNewOn first z e net → IsNewOn first z e' net'
+fails_new first z e e' net net' addr max errors.Fault (same, f) n =
     subst (λ (x : LinkEndsView _). IsNewOn first z x net') (sym same) (record {
       role = n.role;
       none = n.none;
@@ -227,37 +244,37 @@ fails_new first z e e' net net' addr errors.Fault (same, f) n =
       idles = (let i = f.idles in let j = n.idles in omega (arith, i, j));
       faults = (let i = f.later in let j = n.faults in omega (arith, i, j));
     })
-fails_new first z e e' net net' addr errors.InUse none n = elim none [ ]
-fails_new first z e e' net net' addr errors.NoMemory (same, is) n = same_new first z e e' net net' same is n
+fails_new first z e e' net net' addr max errors.InUse none n = elim none [ ]
+fails_new first z e e' net net' addr max errors.NoMemory (same, is) n = same_new first z e e' net net' same is n
 
-fails_same : {L : Type 0} (e e' : LinkEndsView L) (net net' : NetView) (addr : Addr) (why : EndError) → ListensLink (Err why) addr e e' net net' → e' ≡ e
-fails_same e e' net net' addr errors.Fault (same, f) = same
-fails_same e e' net net' addr errors.InUse none = elim none [ ]
-fails_same e e' net net' addr errors.NoMemory (same, is) = same
+fails_same : {L : Type 0} (e e' : LinkEndsView L) (net net' : NetView) (addr : Addr) (max : ℕ) (why : EndError) → ListensLink (Err why) addr max e e' net net' → e' ≡ e
+fails_same e e' net net' addr max errors.Fault (same, f) = same
+fails_same e e' net net' addr max errors.InUse none = elim none [ ]
+fails_same e e' net net' addr max errors.NoMemory (same, is) = same
 
 -- names in the registry and among the ends
 names_kept : {L : Type 0} (e e' : EndsView L) (reg reg' : Registry) → e'.names ≡ e.names → reg' ≡ reg → names reg ≡ e.names.names → names reg' ≡ e'.names.names
 names_kept e e' reg reg' kept same is = ap names same ∙ (is ∙ sym (ap (λ (v : NamesView). v.names) kept))
 
-listens_link : {L : Type 0} (s : SingleView) (e e' : EndsView L) (net net' : NetView) (reg reg' : Registry) (count : ℕ) (addr : Addr) → is_linked addr ≡ true → ListensLink (Ok tt) addr e.links e'.links net net' → e'.names ≡ e.names → reg' ≡ reg → count < 64 → IsNewNode s e net reg count → IsNewNode s e' net' reg' (count + 1)
-listens_link s e e' net net' reg reg' count addr linked link kept same less n =
+listens_link : {L : Type 0} (s : SingleView) (e e' : EndsView L) (net net' : NetView) (reg reg' : Registry) (count : ℕ) (addr : Addr) (max : ℕ) → is_linked addr ≡ true → ListensLink (Ok tt) addr max e.links e'.links net net' → e'.names ≡ e.names → reg' ≡ reg → count < 64 → IsNewNode s e net reg count → IsNewNode s e' net' reg' (count + 1)
+listens_link s e e' net net' reg reg' count addr max linked link kept same less n =
     record {
       fresh = n.fresh;
       first = n.first;
-      new = listens_new n.first s.setting e.links e'.links net net' addr linked link n.new;
+      new = listens_new n.first s.setting e.links e'.links net net' addr max linked link n.new;
       names_are = names_kept e e' reg reg' kept same n.names_are;
-      counted = links_count e e' count (listens_count e.links e'.links net net' addr link) kept n.counted;
+      counted = links_count e e' count (listens_count e.links e'.links net net' addr max link) kept n.counted;
       most = omega (arith, less);
     }
 
-pub listens_on : {L : Type 0} (s : SingleView) (e e' : EndsView L) (net net' : NetView) (reg reg' : Registry) (count : ℕ) (addr : Addr) → ListensAlso (Ok tt) addr e e' net net' reg reg' → count < 64 → IsNewNode s e net reg count → IsNewNode s e' net' reg' (count + 1)
-listens_on s e e' net net' reg reg' count (addrs.Tcp host port) (link, kept, same) less n =
-    listens_link s e e' net net' reg reg' count (addrs.Tcp host port) refl link kept same less n
-listens_on s e e' net net' reg reg' count (addrs.Ws host port path) (link, kept, same) less n =
-    listens_link s e e' net net' reg reg' count (addrs.Ws host port path) refl link kept same less n
-listens_on s e e' net net' reg reg' count (addrs.Ipc path) (link, kept, same) less n =
-    listens_link s e e' net net' reg reg' count (addrs.Ipc path) refl link kept same less n
-listens_on s e e' net net' reg reg' count (addrs.Inproc name) ((is, (unlisted, more)), kept, same) less n =
+pub listens_on : {L : Type 0} (s : SingleView) (e e' : EndsView L) (net net' : NetView) (reg reg' : Registry) (count : ℕ) (addr : Addr) (max : ℕ) → ListensAlso (Ok tt) addr max e e' net net' reg reg' → count < 64 → IsNewNode s e net reg count → IsNewNode s e' net' reg' (count + 1)
+listens_on s e e' net net' reg reg' count (addrs.Tcp host port) max (link, kept, same) less n =
+    listens_link s e e' net net' reg reg' count (addrs.Tcp host port) max refl link kept same less n
+listens_on s e e' net net' reg reg' count (addrs.Ws host port path) max (link, kept, same) less n =
+    listens_link s e e' net net' reg reg' count (addrs.Ws host port path) max refl link kept same less n
+listens_on s e e' net net' reg reg' count (addrs.Ipc path) max (link, kept, same) less n =
+    listens_link s e e' net net' reg reg' count (addrs.Ipc path) max refl link kept same less n
+listens_on s e e' net net' reg reg' count (addrs.Inproc name) max ((is, (unlisted, more)), kept, same) less n =
     record {
       fresh = n.fresh;
       first = n.first;
@@ -267,14 +284,14 @@ listens_on s e e' net net' reg reg' count (addrs.Inproc name) ((is, (unlisted, m
       most = omega (arith, less);
     }
 
-refused_link : {L : Type 0} (s : SingleView) (e e' : EndsView L) (net net' : NetView) (reg reg' : Registry) (count : ℕ) (addr : Addr) (why : EndError) → ListensLink (Err why) addr e.links e'.links net net' → e'.names ≡ e.names → reg' ≡ reg → IsNewNode s e net reg count → IsNewNode s e' net' reg' count
-refused_link s e e' net net' reg reg' count addr why link kept same n =
+refused_link : {L : Type 0} (s : SingleView) (e e' : EndsView L) (net net' : NetView) (reg reg' : Registry) (count : ℕ) (addr : Addr) (max : ℕ) (why : EndError) → ListensLink (Err why) addr max e.links e'.links net net' → e'.names ≡ e.names → reg' ≡ reg → IsNewNode s e net reg count → IsNewNode s e' net' reg' count
+refused_link s e e' net net' reg reg' count addr max why link kept same n =
     record {
       fresh = n.fresh;
       first = n.first;
-      new = fails_new n.first s.setting e.links e'.links net net' addr why link n.new;
+      new = fails_new n.first s.setting e.links e'.links net net' addr max why link n.new;
       names_are = names_kept e e' reg reg' kept same n.names_are;
-      counted = same_count e e' count (fails_same e.links e'.links net net' addr why link) kept n.counted;
+      counted = same_count e e' count (fails_same e.links e'.links net net' addr max why link) kept n.counted;
       most = n.most;
     }
 
@@ -283,17 +300,17 @@ unchanged : {L : Type 0} (s : SingleView) (e e' : EndsView L) (net net' : NetVie
 unchanged s e e' net net' reg reg' count a b c n =
     subst (λ (x : EndsView _). IsNewNode s x net' reg' count) (sym a) (subst (λ (m : NetView). IsNewNode s e m reg' count) (sym b) (subst (λ (r : Registry). IsNewNode s e net r count) (sym c) n))
 
-pub refused_on : {L : Type 0} (s : SingleView) (e e' : EndsView L) (net net' : NetView) (reg reg' : Registry) (count : ℕ) (addr : Addr) (why : EndError) → ListensAlso (Err why) addr e e' net net' reg reg' → IsNewNode s e net reg count → IsNewNode s e' net' reg' count
-refused_on s e e' net net' reg reg' count (addrs.Tcp host port) why (link, kept, same) n =
-    refused_link s e e' net net' reg reg' count (addrs.Tcp host port) why link kept same n
-refused_on s e e' net net' reg reg' count (addrs.Ws host port path) why (link, kept, same) n =
-    refused_link s e e' net net' reg reg' count (addrs.Ws host port path) why link kept same n
-refused_on s e e' net net' reg reg' count (addrs.Ipc path) why (link, kept, same) n =
-    refused_link s e e' net net' reg reg' count (addrs.Ipc path) why link kept same n
-refused_on s e e' net net' reg reg' count (addrs.Inproc name) errors.Fault (named, kept, same) n = elim named [ ]
-refused_on s e e' net net' reg reg' count (addrs.Inproc name) errors.InUse ((is, (listed, none)), kept, same) n =
+pub refused_on : {L : Type 0} (s : SingleView) (e e' : EndsView L) (net net' : NetView) (reg reg' : Registry) (count : ℕ) (addr : Addr) (max : ℕ) (why : EndError) → ListensAlso (Err why) addr max e e' net net' reg reg' → IsNewNode s e net reg count → IsNewNode s e' net' reg' count
+refused_on s e e' net net' reg reg' count (addrs.Tcp host port) max why (link, kept, same) n =
+    refused_link s e e' net net' reg reg' count (addrs.Tcp host port) max why link kept same n
+refused_on s e e' net net' reg reg' count (addrs.Ws host port path) max why (link, kept, same) n =
+    refused_link s e e' net net' reg reg' count (addrs.Ws host port path) max why link kept same n
+refused_on s e e' net net' reg reg' count (addrs.Ipc path) max why (link, kept, same) n =
+    refused_link s e e' net net' reg reg' count (addrs.Ipc path) max why link kept same n
+refused_on s e e' net net' reg reg' count (addrs.Inproc name) max errors.Fault (named, kept, same) n = elim named [ ]
+refused_on s e e' net net' reg reg' count (addrs.Inproc name) max errors.InUse ((is, (listed, none)), kept, same) n =
     unchanged s e e' net net' reg reg' count (ends_of e' e.links e.names kept is) same none n
-refused_on s e e' net net' reg reg' count (addrs.Inproc name) errors.NoMemory ((is, none), kept, same) n =
+refused_on s e e' net net' reg reg' count (addrs.Inproc name) max errors.NoMemory ((is, none), kept, same) n =
     unchanged s e e' net net' reg reg' count (ends_of e' e.links e.names kept is) same none n
 
 -- ---- What is said of a listen
@@ -319,38 +336,38 @@ view_of s e net = record { single = s; ends = e; faults = net.faults }
 below : {L : Type 0} (e : EndsView L) (count : ℕ) → count ≡ count_of e → count < 64 → count_of e < 64
 below e count is less = subst (λ (n : ℕ). n < 64) is less
 
-pub says_listen : {L : Type 0} (s : SingleView) (e e' : EndsView L) (net net' : NetView) (reg reg' : Registry) (count : ℕ) (addr : Addr) → ListensAlso (Ok tt) addr e e' net net' reg reg' → count < 64 → IsNewNode s e net reg count → Listens (Ok tt) addr (view_of s e net) (view_of s e' net')
-says_listen s e e' net net' reg reg' count (addrs.Tcp host port) ((l, is_addr, is, at), kept, same) less n =
-    (below e count n.counted less, (l, is_addr, ends_of e' _ _ is kept), refl, at.faults)
-says_listen s e e' net net' reg reg' count (addrs.Ws host port path) ((l, is_addr, is, at), kept, same) less n =
-    (below e count n.counted less, (l, is_addr, ends_of e' _ _ is kept), refl, at.faults)
-says_listen s e e' net net' reg reg' count (addrs.Ipc path) ((l, is_addr, is, at), kept, same) less n =
-    (below e count n.counted less, (l, is_addr, ends_of e' _ _ is kept), refl, at.faults)
-says_listen s e e' net net' reg reg' count (addrs.Inproc name) ((is, (unlisted, more)), kept, same) less n =
+pub says_listen : {L : Type 0} (s : SingleView) (e e' : EndsView L) (net net' : NetView) (reg reg' : Registry) (count : ℕ) (addr : Addr) (max : ℕ) → ListensAlso (Ok tt) addr max e e' net net' reg reg' → count < 64 → IsNewNode s e net reg count → Listens (Ok tt) addr max (view_of s e net) (view_of s e' net')
+says_listen s e e' net net' reg reg' count (addrs.Tcp host port) max ((l, is_addr, limit, is, at), kept, same) less n =
+    (below e count n.counted less, (l, is_addr, limit, ends_of e' _ _ is kept), refl, at.faults)
+says_listen s e e' net net' reg reg' count (addrs.Ws host port path) max ((l, is_addr, limit, is, at), kept, same) less n =
+    (below e count n.counted less, (l, is_addr, limit, ends_of e' _ _ is kept), refl, at.faults)
+says_listen s e e' net net' reg reg' count (addrs.Ipc path) max ((l, is_addr, limit, is, at), kept, same) less n =
+    (below e count n.counted less, (l, is_addr, limit, ends_of e' _ _ is kept), refl, at.faults)
+says_listen s e e' net net' reg reg' count (addrs.Inproc name) max ((is, (unlisted, more)), kept, same) less n =
     (below e count n.counted less, ((λ (h : IsAmong name e.names.names). unlisted_not name reg unlisted (subst (λ (ns : List (List ℕ)). IsAmong name ns) (sym n.names_are) h)), ends_of e' _ _ kept is), refl, (let q = ap (λ (m : NetView). m.faults) same in omega (arith, q)))
 
-says_refused_link : {L : Type 0} (s : SingleView) (e e' : EndsView L) (net net' : NetView) (addr : Addr) (why : EndError) → is_linked addr ≡ true → ListensLink (Err why) addr e.links e'.links net net' → e'.names ≡ e.names → Listens (Err (error_of why)) addr (view_of s e net) (view_of s e' net')
-says_refused_link s e e' net net' addr errors.Fault linked (same, f) kept = ((linked, f.fault, f.later), ends_of e' _ _ same kept, refl)
-says_refused_link s e e' net net' addr errors.InUse linked none kept = elim none [ ]
-says_refused_link s e e' net net' addr errors.NoMemory linked (same, is) kept = (ap (λ (m : NetView). m.faults) is, ends_of e' _ _ same kept, refl)
+says_refused_link : {L : Type 0} (s : SingleView) (e e' : EndsView L) (net net' : NetView) (addr : Addr) (max : ℕ) (why : EndError) → is_linked addr ≡ true → ListensLink (Err why) addr max e.links e'.links net net' → e'.names ≡ e.names → Listens (Err (error_of why)) addr max (view_of s e net) (view_of s e' net')
+says_refused_link s e e' net net' addr max errors.Fault linked (same, f) kept = ((linked, f.fault, f.later), ends_of e' _ _ same kept, refl)
+says_refused_link s e e' net net' addr max errors.InUse linked none kept = elim none [ ]
+says_refused_link s e e' net net' addr max errors.NoMemory linked (same, is) kept = (ap (λ (m : NetView). m.faults) is, ends_of e' _ _ same kept, refl)
 
-pub says_refused : {L : Type 0} (s : SingleView) (e e' : EndsView L) (net net' : NetView) (reg reg' : Registry) (count : ℕ) (addr : Addr) (why : EndError) → ListensAlso (Err why) addr e e' net net' reg reg' → IsNewNode s e net reg count → Listens (Err (error_of why)) addr (view_of s e net) (view_of s e' net')
-says_refused s e e' net net' reg reg' count (addrs.Tcp host port) why (link, kept, same) n =
-    says_refused_link s e e' net net' (addrs.Tcp host port) why refl link kept
-says_refused s e e' net net' reg reg' count (addrs.Ws host port path) why (link, kept, same) n =
-    says_refused_link s e e' net net' (addrs.Ws host port path) why refl link kept
-says_refused s e e' net net' reg reg' count (addrs.Ipc path) why (link, kept, same) n =
-    says_refused_link s e e' net net' (addrs.Ipc path) why refl link kept
-says_refused s e e' net net' reg reg' count (addrs.Inproc name) errors.Fault (named, kept, same) n = elim named [ ]
-says_refused s e e' net net' reg reg' count (addrs.Inproc name) errors.InUse ((is, (listed, none)), kept, same) n =
+pub says_refused : {L : Type 0} (s : SingleView) (e e' : EndsView L) (net net' : NetView) (reg reg' : Registry) (count : ℕ) (addr : Addr) (max : ℕ) (why : EndError) → ListensAlso (Err why) addr max e e' net net' reg reg' → IsNewNode s e net reg count → Listens (Err (error_of why)) addr max (view_of s e net) (view_of s e' net')
+says_refused s e e' net net' reg reg' count (addrs.Tcp host port) max why (link, kept, same) n =
+    says_refused_link s e e' net net' (addrs.Tcp host port) max why refl link kept
+says_refused s e e' net net' reg reg' count (addrs.Ws host port path) max why (link, kept, same) n =
+    says_refused_link s e e' net net' (addrs.Ws host port path) max why refl link kept
+says_refused s e e' net net' reg reg' count (addrs.Ipc path) max why (link, kept, same) n =
+    says_refused_link s e e' net net' (addrs.Ipc path) max why refl link kept
+says_refused s e e' net net' reg reg' count (addrs.Inproc name) max errors.Fault (named, kept, same) n = elim named [ ]
+says_refused s e e' net net' reg reg' count (addrs.Inproc name) max errors.InUse ((is, (listed, none)), kept, same) n =
     ((subst (λ (ns : List (List ℕ)). IsAmong name ns) n.names_are (listed_is name reg listed), ap (λ (m : NetView). m.faults) same), ends_of e' _ _ kept is, refl)
-says_refused s e e' net net' reg reg' count (addrs.Inproc name) errors.NoMemory ((is, none), kept, same) n =
+says_refused s e e' net net' reg reg' count (addrs.Inproc name) max errors.NoMemory ((is, none), kept, same) n =
     (ap (λ (m : NetView). m.faults) same, ends_of e' _ _ kept is, refl)
 
 -- ---- One dialer more
 
-dials_new : {L : Type 0} (first : NetView) (z : Setting) (e e' : LinkEndsView L) (net : NetView) (addr : Addr) → DialsLink (Ok tt) addr e e' → IsNewOn first z e net → IsNewOn first z e' net
-dials_new first z e e' net addr (d, f, is) n =
+dials_new : {L : Type 0} (first : NetView) (z : Setting) (e e' : LinkEndsView L) (net : NetView) (addr : Addr) (max : ℕ) → DialsLink (Ok tt) addr max e e' → IsNewOn first z e net → IsNewOn first z e' net
+dials_new first z e e' net addr max (d, f, is) n =
     subst (λ (x : LinkEndsView _). IsNewOn first z x net) (sym is) (record {
       role = n.role;
       none = n.none;
@@ -362,22 +379,22 @@ dials_new first z e e' net addr (d, f, is) n =
       faults = n.faults;
     })
 
-dials_link : {L : Type 0} (s : SingleView) (e e' : EndsView L) (net : NetView) (reg : Registry) (count : ℕ) (addr : Addr) → DialsLink (Ok tt) addr e.links e'.links → e'.names ≡ e.names → count < 64 → IsNewNode s e net reg count → IsNewNode s e' net reg (count + 1)
-dials_link s e e' net reg count addr (d, f, is) kept less n =
+dials_link : {L : Type 0} (s : SingleView) (e e' : EndsView L) (net : NetView) (reg : Registry) (count : ℕ) (addr : Addr) (max : ℕ) → DialsLink (Ok tt) addr max e.links e'.links → e'.names ≡ e.names → count < 64 → IsNewNode s e net reg count → IsNewNode s e' net reg (count + 1)
+dials_link s e e' net reg count addr max (d, f, is) kept less n =
     record {
       fresh = n.fresh;
       first = n.first;
-      new = dials_new n.first s.setting e.links e'.links net addr (d, f, is) n.new;
+      new = dials_new n.first s.setting e.links e'.links net addr max (d, f, is) n.new;
       names_are = names_kept e e' reg reg kept refl n.names_are;
       counted = links_count e e' count (let a = ap (λ (x : LinkEndsView _). length x.listeners) is in let b = ap (λ (x : LinkEndsView _). length x.dialers) is in let m = length_more e.links.dialers d in omega (arith, a, b, m)) kept n.counted;
       most = omega (arith, less);
     }
 
-pub dials_on : {L : Type 0} (s : SingleView) (e e' : EndsView L) (net : NetView) (reg : Registry) (count : ℕ) (addr : Addr) → DialsAlso (Ok tt) addr e e' → count < 64 → IsNewNode s e net reg count → IsNewNode s e' net reg (count + 1)
-dials_on s e e' net reg count (addrs.Tcp host port) (link, kept) less n = dials_link s e e' net reg count (addrs.Tcp host port) link kept less n
-dials_on s e e' net reg count (addrs.Ws host port path) (link, kept) less n = dials_link s e e' net reg count (addrs.Ws host port path) link kept less n
-dials_on s e e' net reg count (addrs.Ipc path) (link, kept) less n = dials_link s e e' net reg count (addrs.Ipc path) link kept less n
-dials_on s e e' net reg count (addrs.Inproc name) ((c, f, is), kept) less n =
+pub dials_on : {L : Type 0} (s : SingleView) (e e' : EndsView L) (net : NetView) (reg : Registry) (count : ℕ) (addr : Addr) (max : ℕ) → DialsAlso (Ok tt) addr max e e' → count < 64 → IsNewNode s e net reg count → IsNewNode s e' net reg (count + 1)
+dials_on s e e' net reg count (addrs.Tcp host port) max (link, kept) less n = dials_link s e e' net reg count (addrs.Tcp host port) max link kept less n
+dials_on s e e' net reg count (addrs.Ws host port path) max (link, kept) less n = dials_link s e e' net reg count (addrs.Ws host port path) max link kept less n
+dials_on s e e' net reg count (addrs.Ipc path) max (link, kept) less n = dials_link s e e' net reg count (addrs.Ipc path) max link kept less n
+dials_on s e e' net reg count (addrs.Inproc name) max ((c, f, is), kept) less n =
     record {
       fresh = n.fresh;
       first = n.first;
@@ -387,45 +404,45 @@ dials_on s e e' net reg count (addrs.Inproc name) ((c, f, is), kept) less n =
       most = omega (arith, less);
     }
 
-undialed : {L : Type 0} (e e' : LinkEndsView L) (addr : Addr) (why : EndError) → DialsLink (Err why) addr e e' → e' ≡ e
-undialed e e' addr errors.Fault none = elim none [ ]
-undialed e e' addr errors.InUse none = elim none [ ]
-undialed e e' addr errors.NoMemory same = same
+undialed : {L : Type 0} (e e' : LinkEndsView L) (addr : Addr) (max : ℕ) (why : EndError) → DialsLink (Err why) addr max e e' → e' ≡ e
+undialed e e' addr max errors.Fault none = elim none [ ]
+undialed e e' addr max errors.InUse none = elim none [ ]
+undialed e e' addr max errors.NoMemory same = same
 
-pub undialed_same : {L : Type 0} (e e' : EndsView L) (addr : Addr) (why : EndError) → DialsAlso (Err why) addr e e' → e' ≡ e
-undialed_same e e' (addrs.Tcp host port) why (link, kept) = ends_of e' _ _ (undialed e.links e'.links (addrs.Tcp host port) why link) kept
-undialed_same e e' (addrs.Ws host port path) why (link, kept) = ends_of e' _ _ (undialed e.links e'.links (addrs.Ws host port path) why link) kept
-undialed_same e e' (addrs.Ipc path) why (link, kept) = ends_of e' _ _ (undialed e.links e'.links (addrs.Ipc path) why link) kept
-undialed_same e e' (addrs.Inproc name) errors.Fault (named, kept) = elim named [ ]
-undialed_same e e' (addrs.Inproc name) errors.InUse (named, kept) = elim named [ ]
-undialed_same e e' (addrs.Inproc name) errors.NoMemory (same, kept) = ends_of e' _ _ kept same
+pub undialed_same : {L : Type 0} (e e' : EndsView L) (addr : Addr) (max : ℕ) (why : EndError) → DialsAlso (Err why) addr max e e' → e' ≡ e
+undialed_same e e' (addrs.Tcp host port) max why (link, kept) = ends_of e' _ _ (undialed e.links e'.links (addrs.Tcp host port) max why link) kept
+undialed_same e e' (addrs.Ws host port path) max why (link, kept) = ends_of e' _ _ (undialed e.links e'.links (addrs.Ws host port path) max why link) kept
+undialed_same e e' (addrs.Ipc path) max why (link, kept) = ends_of e' _ _ (undialed e.links e'.links (addrs.Ipc path) max why link) kept
+undialed_same e e' (addrs.Inproc name) max errors.Fault (named, kept) = elim named [ ]
+undialed_same e e' (addrs.Inproc name) max errors.InUse (named, kept) = elim named [ ]
+undialed_same e e' (addrs.Inproc name) max errors.NoMemory (same, kept) = ends_of e' _ _ kept same
 
-pub undialed_on : {L : Type 0} (s : SingleView) (e e' : EndsView L) (net : NetView) (reg : Registry) (count : ℕ) (addr : Addr) (why : EndError) → DialsAlso (Err why) addr e e' → IsNewNode s e net reg count → IsNewNode s e' net reg count
-undialed_on s e e' net reg count addr why d n = unchanged s e e' net net reg reg count (undialed_same e e' addr why d) refl refl n
+pub undialed_on : {L : Type 0} (s : SingleView) (e e' : EndsView L) (net : NetView) (reg : Registry) (count : ℕ) (addr : Addr) (max : ℕ) (why : EndError) → DialsAlso (Err why) addr max e e' → IsNewNode s e net reg count → IsNewNode s e' net reg count
+undialed_on s e e' net reg count addr max why d n = unchanged s e e' net net reg reg count (undialed_same e e' addr max why d) refl refl n
 
 -- ---- What is said of a dial
 
-pub says_dial : {L : Type 0} (s : SingleView) (e e' : EndsView L) (net : NetView) (count : ℕ) (addr : Addr) → DialsAlso (Ok tt) addr e e' → MayDial addr → count < 64 → count ≡ count_of e → Dials (Ok tt) addr (view_of s e net) (view_of s e' net)
-says_dial s e e' net count (addrs.Tcp host port) ((d, f, is), kept) may less counted =
+pub says_dial : {L : Type 0} (s : SingleView) (e e' : EndsView L) (net : NetView) (count : ℕ) (addr : Addr) (max : ℕ) → DialsAlso (Ok tt) addr max e e' → MayDial addr → count < 64 → count ≡ count_of e → Dials (Ok tt) addr max (view_of s e net) (view_of s e' net)
+says_dial s e e' net count (addrs.Tcp host port) max ((d, f, is), kept) may less counted =
     (may, below e count counted less, (d, f, ends_of e' _ _ is kept), refl, refl)
-says_dial s e e' net count (addrs.Ws host port path) ((d, f, is), kept) may less counted =
+says_dial s e e' net count (addrs.Ws host port path) max ((d, f, is), kept) may less counted =
     (may, below e count counted less, (d, f, ends_of e' _ _ is kept), refl, refl)
-says_dial s e e' net count (addrs.Ipc path) ((d, f, is), kept) may less counted =
+says_dial s e e' net count (addrs.Ipc path) max ((d, f, is), kept) may less counted =
     (may, below e count counted less, (d, f, ends_of e' _ _ is kept), refl, refl)
-says_dial s e e' net count (addrs.Inproc name) ((c, f, is), kept) may less counted =
+says_dial s e e' net count (addrs.Inproc name) max ((c, f, is), kept) may less counted =
     (may, below e count counted less, (c, f, ends_of e' _ _ kept is), refl, refl)
 
-pub says_undialed : {L : Type 0} (s : SingleView) (e e' : EndsView L) (net : NetView) (addr : Addr) (why : EndError) → DialsAlso (Err why) addr e e' → Dials (Err (error_of why)) addr (view_of s e net) (view_of s e' net)
-says_undialed s e e' net addr errors.NoMemory d =
-    (tt, ap (λ (x : EndsView _). view_of s x net) (undialed_same e e' addr errors.NoMemory d))
-says_undialed s e e' net (addrs.Tcp host port) errors.Fault (link, kept) = elim link [ ]
-says_undialed s e e' net (addrs.Ws host port path) errors.Fault (link, kept) = elim link [ ]
-says_undialed s e e' net (addrs.Ipc path) errors.Fault (link, kept) = elim link [ ]
-says_undialed s e e' net (addrs.Inproc name) errors.Fault (named, kept) = elim named [ ]
-says_undialed s e e' net (addrs.Tcp host port) errors.InUse (link, kept) = elim link [ ]
-says_undialed s e e' net (addrs.Ws host port path) errors.InUse (link, kept) = elim link [ ]
-says_undialed s e e' net (addrs.Ipc path) errors.InUse (link, kept) = elim link [ ]
-says_undialed s e e' net (addrs.Inproc name) errors.InUse (named, kept) = elim named [ ]
+pub says_undialed : {L : Type 0} (s : SingleView) (e e' : EndsView L) (net : NetView) (addr : Addr) (max : ℕ) (why : EndError) → DialsAlso (Err why) addr max e e' → Dials (Err (error_of why)) addr max (view_of s e net) (view_of s e' net)
+says_undialed s e e' net addr max errors.NoMemory d =
+    (tt, ap (λ (x : EndsView _). view_of s x net) (undialed_same e e' addr max errors.NoMemory d))
+says_undialed s e e' net (addrs.Tcp host port) max errors.Fault (link, kept) = elim link [ ]
+says_undialed s e e' net (addrs.Ws host port path) max errors.Fault (link, kept) = elim link [ ]
+says_undialed s e e' net (addrs.Ipc path) max errors.Fault (link, kept) = elim link [ ]
+says_undialed s e e' net (addrs.Inproc name) max errors.Fault (named, kept) = elim named [ ]
+says_undialed s e e' net (addrs.Tcp host port) max errors.InUse (link, kept) = elim link [ ]
+says_undialed s e e' net (addrs.Ws host port path) max errors.InUse (link, kept) = elim link [ ]
+says_undialed s e e' net (addrs.Ipc path) max errors.InUse (link, kept) = elim link [ ]
+says_undialed s e e' net (addrs.Inproc name) max errors.InUse (named, kept) = elim named [ ]
 
 -- ---- By the text of an address
 
@@ -433,23 +450,23 @@ views_same : {L : Type 0} (a b : NewNodeView L) → a.ends ≡ b.ends → a.sing
 views_same a b e s f =
     subst (λ (x : ℕ). a ≡ record { single = b.single; ends = b.ends; faults = x }) f (subst (λ (x : SingleView). a ≡ record { single = x; ends = b.ends; faults = a.faults }) s (subst (λ (x : EndsView _). a ≡ record { single = a.single; ends = x; faults = a.faults }) e refl))
 
-pub listens_text : {L : Type 0} (r : Result (Unit {0}) EndsError) (text : List ℕ) (addr : Addr) (old new : NewNodeView L) → Spells addr text → Listens r addr old new → OfText r text (λ (a : Addr). Listens r a old new) (new ≡ old)
-listens_text (Ok done) text addr old new s l = (addr, s, l)
-listens_text (Err (refusals.Address at)) text addr old new s l = elim l.0 [ ]
-listens_text (Err refusals.NoMemory) text addr old new s (faults, ends, single) = views_same new old ends single faults
-listens_text (Err refusals.Host) text addr old new s l = (addr, s, l)
-listens_text (Err refusals.Fault) text addr old new s l = (addr, s, l)
-listens_text (Err refusals.InUse) text addr old new s l = (addr, s, l)
-listens_text (Err refusals.Many) text addr old new s l = (addr, s, l)
+pub listens_text : {L : Type 0} (r : Result (Unit {0}) EndsError) (text : List ℕ) (addr : Addr) (max : ℕ) (old new : NewNodeView L) → Spells addr text → Listens r addr max old new → OfText r text (λ (a : Addr). Listens r a max old new) (new ≡ old)
+listens_text (Ok done) text addr max old new s l = (addr, s, l)
+listens_text (Err (refusals.Address at)) text addr max old new s l = elim l.0 [ ]
+listens_text (Err refusals.NoMemory) text addr max old new s (faults, ends, single) = views_same new old ends single faults
+listens_text (Err refusals.Host) text addr max old new s l = (addr, s, l)
+listens_text (Err refusals.Fault) text addr max old new s l = (addr, s, l)
+listens_text (Err refusals.InUse) text addr max old new s l = (addr, s, l)
+listens_text (Err refusals.Many) text addr max old new s l = (addr, s, l)
 
-pub dials_text : {L : Type 0} (r : Result (Unit {0}) EndsError) (text : List ℕ) (addr : Addr) (old new : NewNodeView L) → Spells addr text → Dials r addr old new → OfText r text (λ (a : Addr). Dials r a old new) (new ≡ old)
-dials_text (Ok done) text addr old new s d = (addr, s, d)
-dials_text (Err (refusals.Address at)) text addr old new s d = elim d.0 [ ]
-dials_text (Err refusals.NoMemory) text addr old new s d = d.1
-dials_text (Err refusals.Host) text addr old new s d = (addr, s, d)
-dials_text (Err refusals.Fault) text addr old new s d = (addr, s, d)
-dials_text (Err refusals.InUse) text addr old new s d = (addr, s, d)
-dials_text (Err refusals.Many) text addr old new s d = (addr, s, d)
+pub dials_text : {L : Type 0} (r : Result (Unit {0}) EndsError) (text : List ℕ) (addr : Addr) (max : ℕ) (old new : NewNodeView L) → Spells addr text → Dials r addr max old new → OfText r text (λ (a : Addr). Dials r a max old new) (new ≡ old)
+dials_text (Ok done) text addr max old new s d = (addr, s, d)
+dials_text (Err (refusals.Address at)) text addr max old new s d = elim d.0 [ ]
+dials_text (Err refusals.NoMemory) text addr max old new s d = d.1
+dials_text (Err refusals.Host) text addr max old new s d = (addr, s, d)
+dials_text (Err refusals.Fault) text addr max old new s d = (addr, s, d)
+dials_text (Err refusals.InUse) text addr max old new s d = (addr, s, d)
+dials_text (Err refusals.Many) text addr max old new s d = (addr, s, d)
 
 pub no_text : (why : EndsError) (text : List ℕ) (says : Addr → Type 0) (same : Type 0) → ReadsAddress (Err why) text → same → OfText (Err why) text says same
 no_text (refusals.Address at) text says same r s = (r, s)

@@ -66,7 +66,7 @@ none_both f (e ∷ a) b h k = go (f e) h (none_both f a b)
 
 -- with the entry a link moves, the moment comes, or the socket closes
 abbrev pub moves_node : Entry → Bool
-moves_node (Up p place name) = true
+moves_node (Up p place limit name) = true
 moves_node (Met place) = true
 moves_node (NoUp place miss) = true
 moves_node (Taken p) = true
@@ -75,7 +75,7 @@ moves_node (Close totals) = true
 moves_node _ = false
 
 node_ends : (e : Entry) → moves_node e ≡ false → moves_ends e ≡ false
-node_ends (Up p place name) h = cc
+node_ends (Up p place limit name) h = cc
 node_ends (Met place) h = cc
 node_ends (NoUp place miss) h = cc
 node_ends (Taken p) h = cc
@@ -101,7 +101,7 @@ pub settling_still : (es : List Entry) → AreSettling es → none_of moves_node
 settling_still = none_settling moves_node settle_step
 
 serve_step : (e : Entry) → IsServing e → moves_node e ≡ false
-serve_step (Up p place name) s = absurd s
+serve_step (Up p place limit name) s = absurd s
 serve_step (Met place) s = absurd s
 serve_step (NoUp place miss) s = absurd s
 serve_step (Taken p) s = absurd s

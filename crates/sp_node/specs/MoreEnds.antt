@@ -20,21 +20,21 @@ use Rattle.sp_node.specs.NewNodes.{NewNodeView, count_of}
 
 -- ---- Listening
 
--- one listener more of this address, which is the last
-abbrev pub OneListener : {L : Type 0} → Addr → EndsView L → EndsView L → Type 0
-OneListener addr old new =
-    (l : Listener) × (l.addr ≡ addr) × (new ≡ record old { links = record old.links { listeners = old.links.listeners ++ l ∷ [] } })
+-- one listener more of this address and this receive limit, which is the last
+abbrev pub OneListener : {L : Type 0} → Addr → ℕ → EndsView L → EndsView L → Type 0
+OneListener addr max old new =
+    (l : Listener) × (l.addr ≡ addr) × (l.max ≡ max) × (new ≡ record old { links = record old.links { listeners = old.links.listeners ++ l ∷ [] } })
 
 -- one name more, which was not listened on
 abbrev pub OneName : {L : Type 0} → List ℕ → EndsView L → EndsView L → Type 0
 OneName name old new =
     (IsAmong name old.names.names → ⊥) × (new ≡ record old { names = record old.names { names = old.names.names ++ name ∷ [] } })
 
-abbrev pub OneListen : {L : Type 0} → Addr → EndsView L → EndsView L → Type 0
-OneListen (addrs.Tcp host port) old new = OneListener (addrs.Tcp host port) old new
-OneListen (addrs.Ws host port path) old new = OneListener (addrs.Ws host port path) old new
-OneListen (addrs.Ipc path) old new = OneListener (addrs.Ipc path) old new
-OneListen (addrs.Inproc name) old new = OneName name old new
+abbrev pub OneListen : {L : Type 0} → Addr → ℕ → EndsView L → EndsView L → Type 0
+OneListen (addrs.Tcp host port) max old new = OneListener (addrs.Tcp host port) max old new
+OneListen (addrs.Ws host port path) max old new = OneListener (addrs.Ws host port path) max old new
+OneListen (addrs.Ipc path) max old new = OneListener (addrs.Ipc path) max old new
+OneListen (addrs.Inproc name) max old new = OneName name old new
 
 -- the name is listened on within the process
 abbrev pub IsInUse : {L : Type 0} → Addr → EndsView L → Type 0
@@ -51,10 +51,10 @@ RefusesListen errors.Host addr e before now = ⊥
 RefusesListen (errors.Address at) addr e before now = ⊥
 
 -- one end more where there were fewer than 64; or the ends as they were, and why
-abbrev pub Listens : {L : Type 0} → Result (Unit {0}) EndsError → Addr → NewNodeView L → NewNodeView L → Type 0
-Listens (Ok done) addr old new =
-    (count_of old.ends < 64) × OneListen addr old.ends new.ends × (new.single ≡ old.single) × (old.faults ≤ new.faults)
-Listens (Err e) addr old new =
+abbrev pub Listens : {L : Type 0} → Result (Unit {0}) EndsError → Addr → ℕ → NewNodeView L → NewNodeView L → Type 0
+Listens (Ok done) addr max old new =
+    (count_of old.ends < 64) × OneListen addr max old.ends new.ends × (new.single ≡ old.single) × (old.faults ≤ new.faults)
+Listens (Err e) addr max old new =
     RefusesListen e addr old.ends old.faults new.faults × (new.ends ≡ old.ends) × (new.single ≡ old.single)
 
 -- ---- Dialing
@@ -63,20 +63,20 @@ Listens (Err e) addr old new =
 abbrev pub MayDial : Addr → Type 0
 MayDial addr = is_linked addr ≡ true → is_dialable addr ≡ true
 
--- one dialer more, which has not dialed yet and is the last
-abbrev pub OneDialer : {L : Type 0} → Addr → EndsView L → EndsView L → Type 0
-OneDialer addr old new =
-    (d : Dialer) × IsNewDialer addr d × (new ≡ record old { links = record old.links { dialers = old.links.dialers ++ d ∷ [] } })
+-- one dialer more of this receive limit, which has not dialed yet and is the last
+abbrev pub OneDialer : {L : Type 0} → Addr → ℕ → EndsView L → EndsView L → Type 0
+OneDialer addr max old new =
+    (d : Dialer) × IsNewDialer addr max d × (new ≡ record old { links = record old.links { dialers = old.links.dialers ++ d ∷ [] } })
 
 abbrev pub OneCaller : {L : Type 0} → List ℕ → EndsView L → EndsView L → Type 0
 OneCaller name old new =
     (c : NameDialer) × IsNewNameDialer name c × (new ≡ record old { names = record old.names { callers = old.names.callers ++ c ∷ [] } })
 
-abbrev pub OneDial : {L : Type 0} → Addr → EndsView L → EndsView L → Type 0
-OneDial (addrs.Tcp host port) old new = OneDialer (addrs.Tcp host port) old new
-OneDial (addrs.Ws host port path) old new = OneDialer (addrs.Ws host port path) old new
-OneDial (addrs.Ipc path) old new = OneDialer (addrs.Ipc path) old new
-OneDial (addrs.Inproc name) old new = OneCaller name old new
+abbrev pub OneDial : {L : Type 0} → Addr → ℕ → EndsView L → EndsView L → Type 0
+OneDial (addrs.Tcp host port) max old new = OneDialer (addrs.Tcp host port) max old new
+OneDial (addrs.Ws host port path) max old new = OneDialer (addrs.Ws host port path) max old new
+OneDial (addrs.Ipc path) max old new = OneDialer (addrs.Ipc path) max old new
+OneDial (addrs.Inproc name) max old new = OneCaller name old new
 
 -- why there is none: its host is `*`, or the node has 64 ends
 abbrev pub RefusesDial : {L : Type 0} → EndsError → Addr → EndsView L → Type 0
@@ -85,10 +85,10 @@ RefusesDial errors.Many addr e = MayDial addr × (64 ≤ count_of e)
 RefusesDial errors.NoMemory addr e = Unit {0}
 RefusesDial _ addr e = ⊥
 
-abbrev pub Dials : {L : Type 0} → Result (Unit {0}) EndsError → Addr → NewNodeView L → NewNodeView L → Type 0
-Dials (Ok done) addr old new =
-    MayDial addr × (count_of old.ends < 64) × OneDial addr old.ends new.ends × (new.single ≡ old.single) × (new.faults ≡ old.faults)
-Dials (Err e) addr old new = RefusesDial e addr old.ends × (new ≡ old)
+abbrev pub Dials : {L : Type 0} → Result (Unit {0}) EndsError → Addr → ℕ → NewNodeView L → NewNodeView L → Type 0
+Dials (Ok done) addr max old new =
+    MayDial addr × (count_of old.ends < 64) × OneDial addr max old.ends new.ends × (new.single ≡ old.single) × (new.faults ≡ old.faults)
+Dials (Err e) addr max old new = RefusesDial e addr old.ends × (new ≡ old)
 
 -- ---- By the text of an address
 

@@ -1,5 +1,5 @@
 -- What contracts see of a node before its first turn, and what is true of it.
-use Rattle.std.specs.Prelude.{◌≡◌, ◌≤◌, ◌+◌, ℕ, false, List, [], length, map, Some, None}
+use Rattle.std.specs.Prelude.{◌≡◌, ◌≤◌, ◌+◌, ◌++◌, ℕ, false, List, [], length, map, Some, None}
 use Rattle.std.specs.List.{AllByRecursion}
 use Rattle.sp_base.specs.Views.{NetView}
 use Rattle.sp_base.specs.declared.addr.Addr.{Addr}
@@ -29,9 +29,13 @@ count_of e = length e.links.listeners + length e.links.dialers + length e.names.
 abbrev pub listens_of : List Listener → List Addr
 listens_of ls = map (λ (l : Listener). l.addr) ls
 
+-- their receive limits
+abbrev pub limits_of : {L : Type 0} → LinkEndsView L → List ℕ
+limits_of e = map (λ (l : Listener). l.max) e.listeners ++ map (λ (d : Dialer). d.max) e.dialers
+
 -- where the links of these ends come from
 abbrev pub origins_of : {L : Type 0} → LinkEndsView L → Origins
-origins_of e = record { listens = listens_of e.listeners; dials = addrs_of e.dialers; dice = e.dice }
+origins_of e = record { listens = listens_of e.listeners; dials = addrs_of e.dialers; dice = e.dice; limits = limits_of e }
 
 -- an address that can be dialed, and was not
 pub record IsFreshDialer (d : Dialer) : Type 0 where

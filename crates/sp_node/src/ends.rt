@@ -17,6 +17,9 @@ use std::alloc::Global;
 use std::marker::Model;
 use std::sync::Wait;
 
+/// The usual receive limit, in bytes (NNG_OPT_RECVMAXSZ of nng_options(5)): 1 MiB.
+pub const RECV_MAX_SIZE: u32 = 1_048_576;
+
 // How many ends a node has at most.
 const MOST: u32 = 64;
 
@@ -87,38 +90,39 @@ impl<
 }
 
 impl<'r, R: Wait, P: Proto, L: Link, N: Net<L = L>, C: Pace> NodeEnds<'r, R, P, L, N, C> {
-    /// Listens at one address more (nng_listen(3)): over TCP, IPC and WebSocket at once, on a name within this node.
-    /// Refused with the ends as they were, where the text is no address (`Address`), the node has 64 ends (`Many`), the
-    /// net fails (`Fault`, as for a port in use) or the name is listened on (`InUse`).
-    pub fn listen(&mut self, text: &str) -> Result<(), EndsError>
-        ensures { OfText result text.now (λ addr. Listens result addr self.old self.new) (self.new ≡ self.old) }
+    /// Listens at one address more (nng_listen(3)): over TCP, IPC and WebSocket at once, on a name within this node. A
+    /// message of more than `max` bytes takes its pipe down (NNG_OPT_RECVMAXSZ of nng_options(5)); on a name there is
+    /// no limit. Refused with the ends as they were, where the text is no address (`Address`), the node has 64 ends
+    /// (`Many`), the net fails (`Fault`, as for a port in use) or the name is listened on (`InUse`).
+    pub fn listen(&mut self, text: &str, max: u32) -> Result<(), EndsError>
+        ensures { OfText result text.now (λ addr. Listens result addr max self.old self.new) (self.new ≡ self.old) }
     {
         match address(self.alloc, text) {
-            Ok(addr) => self.listen_at(&addr),
+            Ok(addr) => self.listen_at(&addr, max),
             Err(why) => Err(why),
         }
     }
 
     /// Dials one address more, from the first turn on, and again whenever its link is lost (nng_dial(3) with
-    /// NNG_FLAG_NONBLOCK). Refused with the node as it was, where the text is no address (`Address`), its host is `*`
-    /// (`Host`) or the node has 64 ends (`Many`).
-    pub fn dial(&mut self, text: &str) -> Result<(), EndsError>
-        ensures { OfText result text.now (λ addr. Dials result addr self.old self.new) (self.new ≡ self.old) }
+    /// NNG_FLAG_NONBLOCK), with the receive limit `max` as in `listen`. Refused with the node as it was, where the text
+    /// is no address (`Address`), its host is `*` (`Host`) or the node has 64 ends (`Many`).
+    pub fn dial(&mut self, text: &str, max: u32) -> Result<(), EndsError>
+        ensures { OfText result text.now (λ addr. Dials result addr max self.old self.new) (self.new ≡ self.old) }
     {
         match address(self.alloc, text) {
-            Ok(addr) => self.dial_at(&addr),
+            Ok(addr) => self.dial_at(&addr, max),
             Err(why) => Err(why),
         }
     }
 
     /// As `listen`, of an address that was read.
-    pub fn listen_at(&mut self, addr: &Addr) -> Result<(), EndsError>
-        ensures { Listens result addr.now self.old self.new }
+    pub fn listen_at(&mut self, addr: &Addr, max: u32) -> Result<(), EndsError>
+        ensures { Listens result addr.now max self.old self.new }
     {
         if self.count >= MOST {
             return Err(EndsError::Many);
         }
-        match self.ends.listen(&mut self.net, &mut self.inproc, addr) {
+        match self.ends.listen(&mut self.net, &mut self.inproc, addr, max) {
             Ok(()) => {
                 self.count += 1;
                 Ok(())
@@ -128,8 +132,8 @@ impl<'r, R: Wait, P: Proto, L: Link, N: Net<L = L>, C: Pace> NodeEnds<'r, R, P, 
     }
 
     /// As `dial`, of an address that was read.
-    pub fn dial_at(&mut self, addr: &Addr) -> Result<(), EndsError>
-        ensures { Dials result addr.now self.old self.new }
+    pub fn dial_at(&mut self, addr: &Addr, max: u32) -> Result<(), EndsError>
+        ensures { Dials result addr.now max self.old self.new }
     {
         if addr.is_linked() && !addr.is_dialable() {
             return Err(EndsError::Host);
@@ -137,7 +141,7 @@ impl<'r, R: Wait, P: Proto, L: Link, N: Net<L = L>, C: Pace> NodeEnds<'r, R, P, 
         if self.count >= MOST {
             return Err(EndsError::Many);
         }
-        match self.ends.dial(addr) {
+        match self.ends.dial(addr, max) {
             Ok(()) => {
                 self.count += 1;
                 Ok(())

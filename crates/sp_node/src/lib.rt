@@ -20,7 +20,7 @@ mod error;
 mod finish;
 mod node;
 
-pub use ends::NodeEnds;
+pub use ends::{NodeEnds, RECV_MAX_SIZE};
 pub use error::{EndsError, WaitError};
 pub use finish::NodeEnd;
 pub use node::Node;

@@ -9,7 +9,7 @@ use Rattle.sp_history.specs.declared.parts.Begun.{Begun}
 use Rattle.sp_history.specs.declared.parts.LiveRequest.{LiveRequest}
 use Rattle.sp_history.specs.declared.setting.Setting.{Setting}
 use Rattle.sp_history.specs.Lists.{has}
-use Rattle.sp_history.specs.Setting.{is_sub, is_req, is_reply, has_topics}
+use Rattle.sp_history.specs.Setting.{is_sub, is_req, is_reply, is_pair1, has_topics}
 use Rattle.sp_history.specs.Past.{ctxs}
 use Rattle.sp_history.specs.Moments.{Moment, Lawful, past, also}
 use Rattle.sp_proto.specs.Machines.{CanDrop, CanAgain}
@@ -30,8 +30,8 @@ no_topics z n f = let k : false ≡ true = rw n at f in absurd cc
 pub no_again : {A : Type 0} (t : Moment) (c p : ℕ) (r : LiveRequest) → is_req t.z.role ≡ false → CanAgain t c p r → A
 no_again t c p r n k = let q : false ≡ true = rw n at k.sends_again in absurd cc
 
-pub no_drop : {A : Type 0} (t : Moment) (op : OpName) (s : Begun) → is_reply t.z.role ≡ false → CanDrop t op s → A
-no_drop t op s n k = no_answer _ _ _ n k.nowhere
+pub no_drop : {A : Type 0} (t : Moment) (op : OpName) (s : Begun) → is_reply t.z.role ≡ false → is_pair1 t.z.role ≡ false → CanDrop t op s → A
+no_drop t op s n m k = no_way _ _ _ _ _ _ n m k.nowhere
   where
-    no_answer : {A : Type 0} (r b c : Bool) → r ≡ false → (r && b && c) ≡ true → A
-    no_answer r b c h k = let q : false ≡ true = rw h at k in absurd cc
+    no_way : {A : Type 0} (reply none pair raw lacks calm : Bool) → reply ≡ false → pair ≡ false → ((reply && none || (pair && raw) && lacks) && calm) ≡ true → A
+    no_way reply none pair raw lacks calm h e k = let q : false ≡ true = rw (h, e) at k in absurd cc

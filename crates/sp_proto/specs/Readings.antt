@@ -1,12 +1,12 @@
 -- All that a machine reads of a moment. An entry that no protocol is told leaves it unchanged.
-use Rattle.std.specs.Prelude.{◌≡◌, ⊤, ℕ, Bool, false, List, [], ◌∷◌, ◌++◌, Option}
-use Rattle.std.proofs.Common.{refl, ap, sym, subst}
+use Rattle.std.specs.Prelude.{◌≡◌, ⊤, ℕ, Bool, true, false, if◌then◌else◌, List, [], ◌∷◌, ◌++◌, find, Option, None}
+use Rattle.std.proofs.Common.{refl, ap, sym, ◌∙◌, subst}
 use Rattle.std.proofs.Math.Path.{fun_ext}
 use Rattle.sp_base.specs.declared.OpName.{OpName}
 use Rattle.sp_history.specs.declared.entry.RecordedAct.{RecordedAct}
 use Rattle.sp_history.specs.declared.entry.RecordedAct.TheVariants as acts
 use Rattle.sp_history.specs.declared.entry.Entry.{Entry}
-use Rattle.sp_history.specs.declared.entry.Entry.TheVariants.{Up, Down, Out, Met, NoUp, Quiet, Stall, Clear, Taken, Took}
+use Rattle.sp_history.specs.declared.entry.Entry.TheVariants.{Up, Down, Frame, Out, Met, NoUp, Quiet, Stall, Clear, Taken, Took}
 use Rattle.sp_history.specs.declared.parts.Begun.{Begun}
 use Rattle.sp_history.specs.declared.parts.Item.{Item}
 use Rattle.sp_history.specs.declared.parts.Origin.{Origin}
@@ -15,8 +15,10 @@ use Rattle.sp_history.specs.declared.setting.Setting.{Setting}
 use Rattle.sp_history.specs.Lists.{without}
 use Rattle.sp_history.specs.Past.{pend, ctxs, topics, up, ups, now}
 use Rattle.sp_history.specs.Kept.{pool, stored, route}
-use Rattle.sp_history.specs.Requests.{requests}
-use Rattle.sp_history.specs.Sends.{bytes_of, bytes_of_act}
+use Rattle.sp_history.specs.Frames.{malformed, is_too_long}
+use Rattle.sp_history.proofs.Malformed.{pool_same, requests_same, too_long}
+use Rattle.sp_history.specs.Requests.{requests, is_on, is_orphan}
+use Rattle.sp_history.specs.Sends.{bytes_for, bytes_of, bytes_of_act}
 use Rattle.sp_history.specs.Settled.{has_full, is_dry}
 use Rattle.sp_history.specs.Legal.{is_part_of_send}
 use Rattle.sp_history.specs.Moments.{Moment, past, also, IsSilent}
@@ -25,7 +27,7 @@ use Rattle.sp_proto.specs.Kinds.{Kind, Starts, kind_of, setting_of, start}
 -- the pipes that are up, in the order in which they were last used: came up, or got a message
 abbrev pub in_turn : List Entry → List ℕ
 in_turn [] = []
-in_turn (Up p place name ∷ past) = in_turn past ++ p ∷ []
+in_turn (Up p place limit name ∷ past) = in_turn past ++ p ∷ []
 in_turn (Down p why ∷ past) = without (in_turn past) p
 in_turn (Out p b ∷ past) = without (in_turn past) p ++ p ∷ []
 in_turn (_ ∷ past) = in_turn past
@@ -94,6 +96,36 @@ leaves t _ h = absurd h
 -- so a machine that depends only on the reading stands as before
 pub stays : {M : Type 0} (Stands : M → MomentReading → Type 0) (m : M) (t : Moment) (e : Entry) → IsSilent e → Stands m (reading t) → Stands m (reading (also t e))
 stays Stands m t e h k = subst (Stands m) (leaves t e h).0 k
+
+-- ---- A frame above its pipe's limit
+
+-- a malformed frame leaves what a machine reads
+leaves_frame : (t : Moment) (p : ℕ) (b : List ℕ) → malformed t.z (past t) p b ≡ true → reading t ≡ reading (also t (Frame p b))
+leaves_frame t p b h =
+    ap (λ (f : ℕ → List Item). record (reading t) { pool = f }) pools
+    ∙ ap (λ (f : Begun → Option (List ℕ)). record (reading t) { pool = λ c. pool t.z (Frame p b ∷ past t) c; bytes = f }) texts
+    ∙ ap (λ (rs : Requests). record (reading t) { pool = λ c. pool t.z (Frame p b ∷ past t) c; bytes = λ s. bytes_of t.z (Frame p b ∷ past t) s; requests = rs }) asked
+  where
+    asked : requests t.z (past t) ≡ requests t.z (Frame p b ∷ past t)
+    asked = sym (requests_same t.z (past t) p b h)
+
+    pools : ◌≡◌ {A = ℕ → List Item} (λ c. pool t.z (past t) c) (λ c. pool t.z (Frame p b ∷ past t) c)
+    pools = fun_ext (λ c. sym (pool_same t.z (past t) p b c h))
+
+    bytes : (s : Begun) (a : RecordedAct) → bytes_of_act t.z (past t) s a ≡ bytes_of_act t.z (Frame p b ∷ past t) s a
+    bytes s acts.Recv = refl
+    bytes s (acts.Send m) =
+        ap (λ (rs : Requests). bytes_for t.z.role t.z.raw (route t.z (past t) s.op) (if is_orphan rs s.op then None else find (is_on s.ctx) rs.live) m) asked
+
+    texts : ◌≡◌ {A = Begun → Option (List ℕ)} (λ s. bytes_of t.z (past t) s) (λ s. bytes_of t.z (Frame p b ∷ past t) s)
+    texts = fun_ext (λ s. bytes s s.act)
+
+pub leaves_long_frame : (t : Moment) (p : ℕ) (b : List ℕ) → is_too_long (past t) p b ≡ true → reading t ≡ reading (also t (Frame p b))
+leaves_long_frame t p b h = leaves_frame t p b (too_long t.z (past t) p b h)
+
+-- so a machine that depends only on the reading stands as before
+pub passes_frame : {M : Type 0} (Stands : M → MomentReading → Type 0) (m : M) (t : Moment) (p : ℕ) (b : List ℕ) → is_too_long (past t) p b ≡ true → Stands m (reading t) → Stands m (reading (also t (Frame p b)))
+passes_frame Stands m t p b h k = subst (Stands m) (leaves_long_frame t p b h) k
 
 -- ---- An empty past
 

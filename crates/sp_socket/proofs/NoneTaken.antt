@@ -74,9 +74,9 @@ pub none_began : (r : Result OpName BeginError) (z : Setting) (h : List (Turn En
 none_began (Ok op) z h t k c act d b = λ x. subst (NotTaken x) (sym b.entries) (none_both x b.early (Begin op k c act d ∷ b.late) (none_settling x b.early b.early_settles) (none_settling x b.late b.late_settles))
 none_began (Err e) z h t k c act d b = none_in t.entries b.0
 
-pub none_attached : (r : Result ℕ AttachError) (z : Setting) (h : List (Turn Entry)) (t : Turn Entry) (place : ℕ) (name : List ℕ) → AttachedBy r z h t place name → NoneTaken t.entries
-none_attached (Ok p) z h t place name b = none_first _ t (λ op. refl) b.1
-none_attached (Err e) z h t place name b = none_in t.entries b.0
+pub none_attached : (r : Result ℕ AttachError) (z : Setting) (h : List (Turn Entry)) (t : Turn Entry) (place limit : ℕ) (name : List ℕ) → AttachedBy r z h t place limit name → NoneTaken t.entries
+none_attached (Ok p) z h t place limit name b = none_first _ t (λ op. refl) b.1
+none_attached (Err e) z h t place limit name b = none_in t.entries b.0
 
 pub none_took : {W : Type 0} (shown : W → WireView) (r : Option (Gone W)) (z : Setting) (h : List (Turn Entry)) (t : Turn Entry) → TookWire shown r z h t → NoneTaken t.entries
 none_took shown None z h t b = none_in t.entries b.1

@@ -5,7 +5,7 @@ ghost use Rattle.sp_history.specs.declared.entry.RecordedAct.TheVariants as acts
 ghost use Rattle.sp_history.specs.declared.entry.Entry.TheVariants as entries;
 ghost use Rattle.sp_history.specs.Past.{past_of, is_closed};
 ghost use Rattle.core_state.specs.declared.causes.BeginError.TheVariants as error;
-ghost use Rattle.sp_core.specs.CallSays.{ServesPipes};
+ghost use Rattle.sp_core.specs.CallSays.{ServesBusy, ServesPipes};
 ghost use Rattle.sp_core.specs.Standing.{BeganBy, began, HasFirst};
 ghost use Rattle.sp_core.specs.Collecting.{CollectedBy, DueBy, IsOpen};
 ghost use Rattle.sp_core.specs.Closing.{ClosedBy};
@@ -139,13 +139,20 @@ impl<P: Proto, W: Wire> Single<P, W> {
         self.socket.subscribe(rt, &mut self.pass, c, topic)
     }
 
-    /// The wire, which was not used yet, becomes a pipe over the link with this place.
-    pub fn attach<R: Wait>(&mut self, rt: &R, w: W, place: u32) -> Result<PipeId, (AttachError, W)>
+    /// The wire, which was not used yet, becomes a pipe over the link with this place. A frame of more than `max` bytes
+    /// takes the pipe down; 2^32 - 1 is no limit.
+    pub fn attach<R: Wait>(
+        &mut self,
+        rt: &R,
+        w: W,
+        place: u32,
+        max: u32,
+    ) -> Result<PipeId, (AttachError, W)>
         requires { IsUnused (W.shown w) }
         ensures open_ { KeepsOpen self.old self.new }
-        ensures turn { TookOne (λ z h t. AttachedBy (attached result) z h t place (numbers_of (W.shown w).name) × IfErr result (λ e. e.1 ≡ w)) self.old self.new }
+        ensures turn { TookOne (λ z h t. AttachedBy (attached result) z h t place max (numbers_of (W.shown w).name) × IfErr result (λ e. e.1 ≡ w)) self.old self.new }
     {
-        self.socket.attach(rt, &mut self.pass, w, place)
+        self.socket.attach(rt, &mut self.pass, w, place, max)
     }
 
     /// Records that the net handed out the link with this place.
@@ -170,6 +177,14 @@ impl<P: Proto, W: Wire> Single<P, W> {
         ensures turn { TookOne (λ z h t. ServesPipes result z h t) self.old self.new }
     {
         self.socket.serve(rt, &mut self.pass)
+    }
+
+    /// Serves the pipes that are busy, with at most `most` frames of each.
+    pub fn serve_busy<R: Wait>(&mut self, rt: &R, most: u32) -> Served
+        ensures open_ { KeepsOpen self.old self.new }
+        ensures turn { TookOne (λ z h t. ServesBusy most result z h t) self.old self.new }
+    {
+        self.socket.serve_busy(rt, &mut self.pass, most)
     }
 
     /// Takes the wire of the pipe that went down first, of those that were not taken; `None` where there is none.

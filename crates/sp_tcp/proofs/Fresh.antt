@@ -17,6 +17,7 @@ use Rattle.sp_tcp.proofs.Framed.{framed}
 
 role_small : (x : Role) → role_number x < 2 ^ 16
 role_small r.Pair0 = lit< tt
+role_small r.Pair1 = lit< tt
 role_small r.Pub = lit< tt
 role_small r.Sub = lit< tt
 role_small r.Req = lit< tt

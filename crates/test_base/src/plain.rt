@@ -16,7 +16,7 @@ use std::sync::Wait;
 // |---|---|
 // | `role 33 Sub 32 sub false true true` | its role, its peer, its name; whether it sends, receives, has contexts |
 // | `greeting 16 Pair0 [0, 83, 80, 0, 0, 16, 0, 0]` | the role and its greeting |
-// | `none 17` | no role has the number |
+// | `none 18` | no role has the number |
 #[derive(Drop)]
 struct Roles;
 
@@ -54,6 +54,7 @@ fn role_text(alloc: Global, role: Role) -> Option<String> {
 
 const ROLES: &str = "\
 role 16 Pair0 16 pair true true false
+role 17 Pair1 17 pair1 true true false
 role 32 Pub 33 pub true false false
 role 33 Sub 32 sub false true true
 role 48 Req 49 req true true true
@@ -64,7 +65,7 @@ role 98 Surveyor 99 surveyor true true true
 role 99 Respondent 98 respondent true true true
 role 112 Bus 112 bus true true false
 none 0
-none 17
+none 18
 none 34
 none 65535";
 
@@ -108,6 +109,7 @@ fn files_in_memory_are_read_by_their_names(rt: HostRuntime) {
 
 const GREETINGS: &str = "\
 greeting 16 Pair0 [0, 83, 80, 0, 0, 16, 0, 0]
+greeting 17 Pair1 [0, 83, 80, 0, 0, 17, 0, 0]
 greeting 32 Pub [0, 83, 80, 0, 0, 32, 0, 0]
 greeting 33 Sub [0, 83, 80, 0, 0, 33, 0, 0]
 greeting 48 Req [0, 83, 80, 0, 0, 48, 0, 0]

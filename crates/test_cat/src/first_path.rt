@@ -127,6 +127,46 @@ fn a_body_of_the_limit_is_printed_and_one_above_it_is_not(rt: HostRuntime) {
 }
 
 #[test]
+fn a_limit_of_four_bytes(rt: HostRuntime) {
+    runs(
+        &rt,
+        "words --pull --listen tcp://127.0.0.1:5555 --raw --count 1 --recv-max 4
+        link greets_push 0000000000000004'abcd
+        comes done
+        prints 'abcd
+        link greets_push 0000000000000005'abcde
+        comes over
+        prints '
+        words --recv-max=4 --pull --dial tcp://127.0.0.1:5555 --raw --count 1
+        dials 5555
+        link greets_push 0000000000000005'abcde
+        comes over
+        prints '",
+    );
+}
+
+#[test]
+fn a_limit_of_nothing_is_none(rt: HostRuntime) {
+    let alloc = rt.alloc();
+    let body = made(&rt, vec![in alloc; b'a'; 1_048_577]);
+    let size = b"\x00\x00\x00\x00\x00\x10\x00\x01";
+    const RAW: &[&str] = &[
+        "--pull",
+        "--listen",
+        "tcp://127.0.0.1:5555",
+        "--raw",
+        "--count",
+        "1",
+        "--recv-max",
+        "0",
+    ];
+    let link = made(&rt, link_of(alloc, &[HELLO_80, size, &body], false, ALL));
+    let came = made(&rt, over_one(&rt, RAW, link));
+    same(&rt, came.status, Status::Done);
+    same(&rt, came.printed.as_slice(), body.as_slice());
+}
+
+#[test]
 fn a_link_may_take_little_at_a_time(rt: HostRuntime) {
     runs(
         &rt,

@@ -194,3 +194,33 @@ fn a_count_of_0_never_ends(rt: HostRuntime) {
         prints 'ab",
     );
 }
+
+#[test]
+fn a_pair_of_version_1_sends_over_tcp(rt: HostRuntime) {
+    runs(
+        &rt,
+        "words --pair1 --listen tcp://127.0.0.1:5555 --data x --count 1
+        link greets_pair1
+        comes done
+        writes greets_pair1 000000000000000500000001'x
+        link greets_pair
+        comes over
+        opened 1
+        writes greets_pair1",
+    );
+}
+
+#[test]
+fn a_pair_of_version_1_prints_what_comes(rt: HostRuntime) {
+    runs(
+        &rt,
+        "words --pair1 --dial tcp://127.0.0.1:5555 --ascii --count 1
+        dials 5555
+        link greets_pair1 000000000000000500000001'a
+        comes done
+        prints 'a 0a'
+        link greets_pair1 000000000000000500010001'a
+        comes over
+        prints '",
+    );
+}

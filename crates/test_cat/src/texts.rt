@@ -6,6 +6,7 @@
 const TEXTS: &str = "\
     drill_of_two=given 2\nsum 3318706044697439873\nopen 0\n|\
     greets_pair=\0SP\0\0\x10\0\0|\
+    greets_pair1=\0SP\0\0\x11\0\0|\
     greets_req=\0SP\0\0\x30\0\0|\
     greets_rep=\0SP\0\0\x31\0\0|\
     greets_push=\0SP\0\0\x50\0\0|\

@@ -329,3 +329,39 @@ fn tcp_and_websocket_are_served_in_one_run(rt: HostRuntime) {
         second rep_answers 820680000005'OK",
     );
 }
+
+// All ends of a run have its limit: a message of four bytes is printed, and one of five ends its pipe alone.
+#[test]
+fn tcp_ipc_and_websocket_have_one_limit(rt: HostRuntime) {
+    runs(
+        &rt,
+        "words --pull --listen tcp://127.0.0.1:5555 --listen ws://127.0.0.1:5556/ --raw --count 2 --recv-max 4
+        link greets_push 0000000000000004'abcd
+        listener
+        link asks_pull 828400000000'efgh
+        comes done
+        opened 2
+        prints 'abcdefgh
+        link greets_push 0000000000000005'abcde
+        listener
+        link asks_pull 828400000000'efgh
+        comes over
+        opened 2
+        prints 'efgh
+        link greets_push 0000000000000004'abcd
+        listener
+        link asks_pull 828500000000'efghi
+        comes over
+        opened 2
+        prints 'abcd
+        words --pull --listen ipc:///tmp/a --raw --recv-max 4
+        link greets_push 010000000000000004'abcd 010000000000000005'abcde
+        comes over
+        prints 'abcd
+        words --pull --dial ws://127.0.0.1:5555/ --raw --recv-max 4
+        dials 5555 /
+        link after:198 grants_pull 8204'abcd 8205'abcde
+        comes over
+        prints 'abcd",
+    );
+}

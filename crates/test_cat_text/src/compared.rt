@@ -13,19 +13,18 @@ use std::process::Abort;
 
 /// The words that lists are made of; two apostrophes are the empty one.
 const POOL: &str = "\
-    --pull --push --sub0 --req --rep --pair --bus0 --pub --surveyor --respondent0 --listen --listen=tcp://*:0 \
+    --pull --push --sub0 --req --rep --pair --pair1 --bus0 --pub --surveyor --respondent0 --listen --listen=tcp://*:0 \
     --listen=inproc://a --dial --dial=tcp://1.2.3.4:5 --dial=tcp://*:1 --dial=tcp://1.2.3.4:0 \
-    tcp://127.0.0.1:5555 tcp://*:5 tcp://127.0.0.1:0 inproc://x ipc://x ipc:// tcp://1.2.3 --data --data=a=b \
-    --file --file= --file=f --subscribe --subscribe=a --count --count=2 --count=4294967296 --interval \
-    --interval=86400 --recv-timeout=86401 --send-timeout=0 0 3 01 x '' --ascii --hex --pull=x --drill --drill=1 \
-    --drill=0 --bogus";
+    tcp://127.0.0.1:5555 tcp://*:5 tcp://127.0.0.1:0 inproc://x ipc://x ipc:// tcp://1.2.3 --data --data=a=b --file --file= \
+    --file=f --subscribe --subscribe=a --count --count=2 --count=4294967296 --interval --interval=86400 \
+    --recv-timeout=86401 --send-timeout=0 --recv-max --recv-max=0 0 3 01 x '' --ascii --hex --pull=x --drill --drill=1 --drill=0 --bogus";
 
 /// Whole options that most often go together.
 const PARTS: &str = "\
     --listen=tcp://127.0.0.1:5555 --dial=tcp://10.0.0.1:1 --listen=inproc://x --dial=inproc://y \
     --listen=ws://*:80/a --dial=ws://1.2.3.4:80 --data= --data=hello --file=f --subscribe= --subscribe=a \
     --subscribe=b=c --count=0 --count=7 --interval=0 --interval=3 --recv-timeout=4 --send-timeout=86400 --raw \
-    --quoted --msgpack --ascii";
+    --quoted --msgpack --ascii --recv-max=9";
 
 /// The next number of a random sequence (a linear congruence).
 fn next(seed: u32) -> u32 {
@@ -50,7 +49,7 @@ fn any_words(rt: &impl Abort, alloc: Global, seed: &mut u32, len: usize) -> Vec<
     let mut list = Vec::new(alloc);
     for _ in 0..len {
         *seed = next(*seed);
-        pushed(rt, &mut list, alloc, word(POOL, *seed, 48));
+        pushed(rt, &mut list, alloc, word(POOL, *seed, 51));
     }
     list
 }
@@ -63,9 +62,9 @@ fn likely_words(rt: &impl Abort, alloc: Global, seed: &mut u32, len: usize) -> V
     for n in 0..len.saturating_add(1) {
         *seed = next(*seed);
         let text = if n == place {
-            word(POOL, *seed, 10)
+            word(POOL, *seed, 11)
         } else {
-            word(PARTS, *seed, 22)
+            word(PARTS, *seed, 23)
         };
         pushed(rt, &mut list, alloc, text);
     }
@@ -190,6 +189,7 @@ fn count_of(role: Role, words: &[String], list: &[ListedOption]) -> Option<u64> 
         Role::Req => true,
         Role::Surveyor => true,
         Role::Pair0 => has_body,
+        Role::Pair1 => has_body,
         Role::Bus => has_body,
         _ => false,
     };
@@ -203,6 +203,15 @@ fn count_of(role: Role, words: &[String], list: &[ListedOption]) -> Option<u64> 
                 None
             }
         }
+    }
+}
+
+/// The receive limit of such a play.
+fn limit_of(words: &[String], list: &[ListedOption]) -> u64 {
+    match number_at(words, list, 9) {
+        Some(0) => 2_147_483_647,
+        Some(n) => n,
+        None => 1_048_576,
     }
 }
 
@@ -230,6 +239,7 @@ fn agrees(
         && is_number(plan.interval, number_at(words, list, 6))
         && is_number(plan.recv_timeout, number_at(words, list, 7))
         && is_number(plan.send_timeout, number_at(words, list, 8))
+        && u64::from(plan.recv_max) == limit_of(words, list)
         && plan.format == formats_of(list).0
 }
 

@@ -18,7 +18,8 @@ const VALUED: &str = "\
 --count
 --interval
 --recv-timeout
---send-timeout";
+--send-timeout
+--recv-max";
 
 /// The options for roles, one a line. Each may have a 0 after it.
 const ROLES: &str = "\
@@ -51,6 +52,9 @@ pub struct ListedOption {
 }
 
 fn role_of(text: &str) -> Option<OptionKind> {
+    if text == "--pair1" {
+        return Some(OptionKind::Role(Role::Pair1));
+    }
     let role = match text.strip_suffix('0').unwrap_or(text) {
         "--pair" => Role::Pair0,
         "--pub" => Role::Pub,
@@ -221,6 +225,7 @@ fn is_value(rt: &impl Abort, alloc: Global, n: usize, value: &[u8]) -> bool {
         3 => !value.is_empty(),
         4 => value.len() <= 1_024,
         5 => number_of(value, 4_294_967_295).is_some(),
+        9 => number_of(value, 2_147_483_647).is_some(),
         _ => number_of(value, 86_400).is_some(),
     }
 }
@@ -288,6 +293,7 @@ fn is_counted(list: &[ListedOption]) -> bool {
         && times(list, 6) <= 1
         && times(list, 7) <= 1
         && times(list, 8) <= 1
+        && times(list, 9) <= 1
         && formats_of(list).1 <= 1
         && (!needs_data(role) || bodies == 1)
         && (!takes_no_data(role) || bodies == 0)

@@ -88,6 +88,9 @@ fn show_cat(rt: &impl Abort, alloc: Global, plan: &CatPlan) -> String {
     push_number(rt, &mut text, "interval", plan.interval);
     push_number(rt, &mut text, "recv", plan.recv_timeout);
     push_number(rt, &mut text, "send", plan.send_timeout);
+    if plan.recv_max != 1_048_576 {
+        push_number(rt, &mut text, "max", Some(plan.recv_max));
+    }
     made(rt, write!(text, " {:?}", plan.format));
     text
 }
@@ -133,6 +136,12 @@ const PLANS: &str = "\
 --pull --listen A --recv-timeout=0 | Pull listen 127.0.0.1:5555 recv 0 None
 --rep --listen A | Rep listen 127.0.0.1:5555 None
 --pair0 --listen A | Pair0 listen 127.0.0.1:5555 None
+--pair1 --listen A | Pair1 listen 127.0.0.1:5555 None
+--recv-max 4 --pull --listen A | Pull listen 127.0.0.1:5555 max 4 None
+--pull --listen A --recv-max 1048576 | Pull listen 127.0.0.1:5555 None
+--pull --listen A --recv-max 0 | Pull listen 127.0.0.1:5555 max 2147483647 None
+--push --dial=tcp://127.0.0.1:5556 --data=x --recv-max=2147483647 | \
+    Push dial 127.0.0.1:5556 text 'x' count 1 max 2147483647 None
 --raw --listen=tcp://127.0.0.1:5555 --pull0 | Pull listen 127.0.0.1:5555 Raw
 --file f --msgpack --bus --dial B | Bus dial 127.0.0.1:5556 file 'f' count 1 Msgpack";
 
@@ -175,6 +184,9 @@ const COUNTS: &str = "\
 --pair --listen A --data x | Pair0 listen 127.0.0.1:5555 text 'x' count 1 None
 --pair --listen A --data x --interval 2 | Pair0 listen 127.0.0.1:5555 text 'x' interval 2 None
 --pair --listen A --data x --count 0 | Pair0 listen 127.0.0.1:5555 text 'x' None
+--pair1 --listen A --data x | Pair1 listen 127.0.0.1:5555 text 'x' count 1 None
+--pair1 --listen A --data x --interval 2 | Pair1 listen 127.0.0.1:5555 text 'x' interval 2 None
+--pair1 --listen A --data x --count 0 | Pair1 listen 127.0.0.1:5555 text 'x' None
 --bus --listen A --data x | Bus listen 127.0.0.1:5555 text 'x' count 1 None
 --bus --listen A --data x --interval 2 | Bus listen 127.0.0.1:5555 text 'x' interval 2 None
 --bus --listen A --data x --count 0 | Bus listen 127.0.0.1:5555 text 'x' None
@@ -199,6 +211,7 @@ fn the_count_is_that_of_the_role(rt: HostRuntime) {
 const NAMES: &str = "\
 --pair --listen A --data=x | Pair0 listen 127.0.0.1:5555 text 'x' count 1 None
 --pair0 --listen A --data=x | Pair0 listen 127.0.0.1:5555 text 'x' count 1 None
+--pair1 --listen A --data=x | Pair1 listen 127.0.0.1:5555 text 'x' count 1 None
 --pub --listen A --data=x | Pub listen 127.0.0.1:5555 text 'x' count 1 None
 --pub0 --listen A --data=x | Pub listen 127.0.0.1:5555 text 'x' count 1 None
 --sub --listen A --send-timeout=1 | Sub listen 127.0.0.1:5555 topic '' send 1 None

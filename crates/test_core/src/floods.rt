@@ -31,6 +31,20 @@ fn a_publisher_without_pipes_drops_what_it_sends(rt: HostRuntime) {
 }
 
 #[test]
+fn a_frame_above_the_limit_at_a_publisher_closes_its_pipe_alone(rt: HostRuntime) {
+    let calls = "
+        joins 0 8 1 pause
+        joins_within 1 2 8 2 'abc
+        serves true 1 0 1
+        down 2 malformed
+        send 0 ' 'm
+        sent
+        close 1 1 0 1 1 0
+    ";
+    publisher_plays(&rt, calls, "asked 1 1 'm");
+}
+
+#[test]
 fn a_frame_at_a_publisher_closes_its_pipe_alone(rt: HostRuntime) {
     let calls = "
         joins 0 8 1 pause

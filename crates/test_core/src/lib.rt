@@ -5,6 +5,8 @@
 #[cfg(test)]
 mod bursts;
 #[cfg(test)]
+mod busy;
+#[cfg(test)]
 mod checks;
 #[cfg(test)]
 mod ends;

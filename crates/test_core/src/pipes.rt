@@ -115,6 +115,46 @@ fn a_close_takes_its_pipes_down(rt: HostRuntime) {
     pull_plays(&rt, false, 1, calls, "");
 }
 
+#[test]
+fn a_frame_above_its_pipes_limit_closes_it(rt: HostRuntime) {
+    let calls = "
+        joins_within 0 2 0 1 'ab 'abc 'd
+        serves true 0 0 1
+        now 0 ' 'ab
+        serves true 1 0 0
+        down 1 malformed
+        not_now 0 8
+        close 1 1 0 2 0 0
+    ";
+    pull_plays(&rt, false, 1, calls, "");
+}
+
+#[test]
+fn two_pipes_have_their_own_limits(rt: HostRuntime) {
+    let calls = "
+        joins_within 0 2 0 1 'abc
+        joins_within 1 3 0 2 'abc
+        serves true 1 0 1
+        down 1 malformed
+        now 0 ' 'abc
+        close 1 1 0 2 0 0
+    ";
+    pull_plays(&rt, false, 1, calls, "put 2");
+}
+
+#[test]
+fn a_limit_of_nothing_lets_empty_messages_pass(rt: HostRuntime) {
+    let calls = "
+        joins_within 0 0 0 1 ' 'a
+        serve
+        now 0 ' '
+        serve
+        down 1 malformed
+        close 1 1 0 2 0 0
+    ";
+    pull_plays(&rt, false, 1, calls, "");
+}
+
 // A wire that gives `x`.
 fn giving<R: AllocGlobal + Abort>(rt: &R) -> PlayWire
     ensures { IsUnused (⟦<PlayWire as Wire>⟧.shown result) }
@@ -133,11 +173,11 @@ fn takes_what_came_back<P: Proto + Drop, R: AllocGlobal + Wait + Abort>(rt: &R, 
     let mut one = driver(rt, one, 1);
     let mut other = driver(rt, other, 1);
     one.close(rt);
-    match one.attach(rt, giving(rt), 0) {
+    match one.attach(rt, giving(rt), 0, u32::MAX) {
         Ok(_) => fails(rt),
         Err((e, wire)) => {
             same(rt, SpError::from(e).code(), 7);
-            match other.attach(rt, wire, 0) {
+            match other.attach(rt, wire, 0, u32::MAX) {
                 Ok(pipe) => same(rt, pipe.0, 1),
                 Err((_e, _wire)) => fails(rt),
             }

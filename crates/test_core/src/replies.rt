@@ -46,6 +46,24 @@ fn a_frame_that_is_cut_short_closes_its_pipe_alone(rt: HostRuntime) {
 }
 
 #[test]
+fn a_request_above_its_pipes_limit_closes_it_alone(rt: HostRuntime) {
+    let calls = "
+        joins_within 0 4 8 1 80000005'q
+        joins_within 1 5 8 2 80000006'r
+        receive 0
+        serves true 1 0 1
+        down 1 malformed
+        received ' 'r
+        send 0 ' 'a
+        sent
+        not_now 0 8
+        close 2 2 0 2 1 0
+    ";
+    let wires = "put 2 80000006'a";
+    both_play(&rt, false, calls, wires);
+}
+
+#[test]
 fn a_reply_goes_back_by_eight_words(rt: HostRuntime) {
     // After nine words without the top bit come seven more, then a word with it and a body.
     let calls = "

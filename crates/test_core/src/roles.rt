@@ -6,7 +6,7 @@ ghost use Rattle.sp_proto.specs.Kinds.{Kind, Starts};
 
 use crate::checks::{fails, is_right};
 use proto_bus::Bus;
-use proto_pair::Pair;
+use proto_pair::{Pair, Pair1};
 use proto_pipeline::{Pull, Push};
 use proto_pubsub::{Publish, Subscribe};
 use proto_reqrep::{Reply, Request, Respond};
@@ -113,6 +113,21 @@ pub fn pair<R: AllocGlobal + Abort>(rt: &R, raw: bool) -> Pair
 /// Checks that a core of 16 slots over a pair, raw or not, returns what each line says, and ends with these wires.
 pub fn pair_plays<R: AllocGlobal + Wait + Abort>(rt: &R, raw: bool, calls: &str, wires: &str) {
     plays(rt, pair(rt, raw), 16, calls, wires);
+}
+
+/// A pair of version 1, raw or not.
+pub fn pair1<R: AllocGlobal + Abort>(rt: &R, raw: bool) -> Pair
+    ensures { (k : Kind) × Starts ⟦<Pair as Proto>⟧.ties result k }
+{
+    match Pair1::new(rt.alloc(), Options::usual(Role::Pair1, 0), raw) {
+        Ok(machine) => machine,
+        Err(_) => fails(rt),
+    }
+}
+
+/// Checks the same over a pair of version 1, raw or not.
+pub fn pair1_plays<R: AllocGlobal + Wait + Abort>(rt: &R, raw: bool, calls: &str, wires: &str) {
+    plays(rt, pair1(rt, raw), 16, calls, wires);
 }
 
 /// Checks the same over a bus with these options.

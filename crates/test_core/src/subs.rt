@@ -44,6 +44,22 @@ fn a_subscriber_keeps_what_its_topics_match(rt: HostRuntime) {
     small_sub_plays(&rt, false, true, calls, NOTHING);
 }
 
+#[test]
+fn a_frame_above_its_pipes_limit_is_not_kept(rt: HostRuntime) {
+    let calls = "
+        subscribes 0 ' 0
+        joins_within 0 2 0 1 'ab 'abc 'd
+        joins_within 1 3 0 2 'xyz
+        serves true 1 0 1
+        down 1 malformed
+        now 0 ' 'ab
+        now 0 ' 'xyz
+        not_now 0 8
+        close 2 2 0 3 0 0
+    ";
+    small_sub_plays(&rt, false, true, calls, "put 2");
+}
+
 // Topics of this many lengths are kept as a set.
 #[test]
 fn the_empty_topic_is_one_of_many(rt: HostRuntime) {

@@ -53,6 +53,26 @@ fn a_newer_survey_replaces_the_older(rt: HostRuntime) {
 }
 
 #[test]
+fn a_response_above_its_pipes_limit_closes_it_alone(rt: HostRuntime) {
+    let calls = "
+        joins_within 0 4 8 1 80000000'a
+        joins_within 1 5 8 2 80000000'b
+        send 0 ' 's
+        sent
+        receive 0
+        serve
+        down_asked 1 malformed 1 80000000's
+        received ' 'b
+        // The next survey goes to the other pipe alone.
+        send 0 ' 't
+        sent
+        close 3 3 0 2 3 0
+    ";
+    let wires = "put 2 80000000's 80000001't";
+    surveyor_plays(&rt, false, calls, wires);
+}
+
+#[test]
 fn a_response_that_is_cut_short_closes_its_pipe_alone(rt: HostRuntime) {
     let calls = "
         joins 0 8 1 800000'

@@ -77,9 +77,9 @@ first_plain e t h f = subst ArePlain (sym f.entries) (h, settling_plain f.late f
 pub began_plain : (e : BeginError) (z : Setting) (h : List (Turn Entry)) (t : Turn Entry) (k c : ℕ) (act : RecordedAct) (d : Option ℕ) → BeganBy (Err e) z h t k c act d → ArePlain t.entries
 began_plain e z h t k c act d b = settling_plain t.entries b.0
 
-pub attached_plain : (r : Result ℕ AttachError) (z : Setting) (h : List (Turn Entry)) (t : Turn Entry) (place : ℕ) (name : List ℕ) → AttachedBy r z h t place name → ArePlain t.entries
-attached_plain (Ok p) z h t place name a = first_plain (Up p place (record { numbers = name })) t tt a.1
-attached_plain (Err e) z h t place name a = settling_plain t.entries a.0
+pub attached_plain : (r : Result ℕ AttachError) (z : Setting) (h : List (Turn Entry)) (t : Turn Entry) (place limit : ℕ) (name : List ℕ) → AttachedBy r z h t place limit name → ArePlain t.entries
+attached_plain (Ok p) z h t place limit name a = first_plain (Up p place limit (record { numbers = name })) t tt a.1
+attached_plain (Err e) z h t place limit name a = settling_plain t.entries a.0
 
 pub taken_plain : {W : Type 0} (shown : W → WireView) (r : Option (Gone W)) (z : Setting) (h : List (Turn Entry)) (t : Turn Entry) → TookWire shown r z h t → ArePlain t.entries
 taken_plain shown None z h t a = settling_plain t.entries a.1

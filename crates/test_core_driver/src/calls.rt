@@ -261,11 +261,17 @@ impl<P: Proto, W: Wire> Driver<P, W> {
     }
 
     /// Attaches the wire.
-    pub fn attach<R: Wait>(&mut self, rt: &R, w: W, place: u32) -> Result<PipeId, (AttachError, W)>
+    pub fn attach<R: Wait>(
+        &mut self,
+        rt: &R,
+        w: W,
+        place: u32,
+        max: u32,
+    ) -> Result<PipeId, (AttachError, W)>
         requires { IsUnused (W.shown w) }
         ensures { IfErr result (λ e. e.1 ≡ w) }
     {
-        self.core.attach(rt, 1, w, place)
+        self.core.attach(rt, 1, w, place, max)
     }
 
     /// Notes a link that was met.
@@ -281,6 +287,11 @@ impl<P: Proto, W: Wire> Driver<P, W> {
     /// Serves the pipes.
     pub fn serve<R: Wait>(&mut self, rt: &R) -> Served {
         self.core.serve(rt, 1)
+    }
+
+    /// Serves the pipes that are busy, with at most `most` frames of each.
+    pub fn serve_busy<R: Wait>(&mut self, rt: &R, most: u32) -> Served {
+        self.core.serve_busy(rt, 1, most)
     }
 
     /// Takes the oldest pipe that is down.

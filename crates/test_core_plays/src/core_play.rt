@@ -2,17 +2,20 @@
 use crate::line::{PlayLine, call_of};
 use crate::results::{
     down, is_asked, is_back, is_gone, is_message, is_put, is_received, is_sent, message, now_code,
-    recv_code, shut_code, topic_code, totals,
+    recv_code, served, shut_code, topic_code, totals,
 };
 use crate::wires::{Fails, PlayWire, wire};
 use crate::words::{is_polled, is_raced, miss_of, now_word};
 use sp_base::{Ctx, OpName, PipeId, SpError, Tick};
-use sp_core::{AttachError, Served};
+use sp_core::AttachError;
 use sp_msg::Message;
 use sp_proto::Proto;
 use std::alloc::Global;
 use std::sync::Wait;
 use test_core_driver::Driver;
+
+// No receive limit.
+const NO_LIMIT: u32 = u32::MAX;
 
 /// A core that plays, and the names of the operations that it began. It must be spent: `ends` ends it.
 pub struct CorePlay<P: Proto> {
@@ -57,11 +60,11 @@ impl<P: Proto> CorePlay<P> {
         let Some(wire) = wire(alloc, 0, gives, Fails::Nowhere) else {
             return false;
         };
-        match self.driver.attach(rt, wire, places[0]) {
+        match self.driver.attach(rt, wire, places[0], NO_LIMIT) {
             Ok(_) => false,
             Err((e, wire)) => {
                 let is_right = e == why && self.wrong_line(rt, alloc, calls).is_none();
-                match self.driver.attach(rt, wire, places[1]) {
+                match self.driver.attach(rt, wire, places[1], NO_LIMIT) {
                     Ok(number) => is_right && number.0 == pipe,
                     Err(_) => false,
                 }
@@ -105,12 +108,14 @@ impl<P: Proto> CorePlay<P> {
         is_right && line.is_read()
     }
 
-    // Attaches a wire that takes `most` messages and gives the rest of the line, and returns its pipe's number.
+    // Attaches a wire that takes `most` messages and gives the rest of the line, with this receive limit, and returns
+    // its pipe's number.
     fn attach<R: Wait>(
         &mut self,
         rt: &R,
         alloc: Global,
         place: u32,
+        max: u32,
         most: u64,
         line: &mut PlayLine<'_>,
         fails: Fails,
@@ -119,7 +124,7 @@ impl<P: Proto> CorePlay<P> {
             line.mark_wrong();
             return Err(0);
         };
-        match self.driver.attach(rt, wire, place) {
+        match self.driver.attach(rt, wire, place, max) {
             Ok(pipe) => Ok(pipe.0),
             Err((e, _)) => Err(SpError::from(e).code()),
         }
@@ -136,20 +141,25 @@ impl<P: Proto> CorePlay<P> {
         match name {
             "joins" => {
                 let (place, most, pipe) = (line.number(), line.long(), line.number());
-                self.attach(rt, alloc, place, most, line, Fails::Nowhere) == Ok(pipe)
+                self.attach(rt, alloc, place, NO_LIMIT, most, line, Fails::Nowhere) == Ok(pipe)
+            }
+            "joins_within" => {
+                let (place, max) = (line.number(), line.number());
+                let (most, pipe) = (line.long(), line.number());
+                self.attach(rt, alloc, place, max, most, line, Fails::Nowhere) == Ok(pipe)
             }
             "joins_failing" => {
                 let (place, most, pipe) = (line.number(), line.long(), line.number());
                 let fails = Fails::AtPull(line.long());
-                self.attach(rt, alloc, place, most, line, fails) == Ok(pipe)
+                self.attach(rt, alloc, place, NO_LIMIT, most, line, fails) == Ok(pipe)
             }
             "joins_broken" => {
                 let (place, pipe) = (line.number(), line.number());
-                self.attach(rt, alloc, place, 0, line, Fails::AtRoom) == Ok(pipe)
+                self.attach(rt, alloc, place, NO_LIMIT, 0, line, Fails::AtRoom) == Ok(pipe)
             }
             "no_pipe" => {
                 let (place, code) = (line.number(), line.number());
-                self.attach(rt, alloc, place, 0, line, Fails::Nowhere) == Err(code)
+                self.attach(rt, alloc, place, NO_LIMIT, 0, line, Fails::Nowhere) == Err(code)
             }
             "met" => {
                 self.driver.met(rt, line.number());
@@ -177,14 +187,18 @@ impl<P: Proto> CorePlay<P> {
                 true
             }
             "serves" => {
-                let served = Served {
-                    moved: line.flag(),
-                    ended: line.number(),
-                    waiting: line.number(),
-                    up: line.number(),
-                    taken: 0,
-                };
-                self.driver.serve(rt) == served
+                let expected = served(line);
+                self.driver.serve(rt) == expected
+            }
+            "serve_busy" => {
+                let most = line.number();
+                self.driver.serve_busy(rt, most);
+                true
+            }
+            "serves_busy" => {
+                let most = line.number();
+                let expected = served(line);
+                self.driver.serve_busy(rt, most) == expected
             }
             "down" => down(self.driver.take_ended(rt), line).is_some(),
             "down_with" => match down(self.driver.take_ended(rt), line) {

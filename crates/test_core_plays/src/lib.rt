@@ -7,12 +7,15 @@
 //! | call | what it says |
 //! |---|---|
 //! | `joins PLACE MOST PIPE GIVE..` | a wire of the link takes MOST messages, gives this, and becomes this pipe |
-//! | `joins_failing PLACE MOST PIPE PULL GIVE..` | the same; the pull with this number, from 0 on, fails |
+//! | `joins_within PLACE LIMIT MOST PIPE GIVE..` | the same as `joins`; the pipe has this receive limit |
+//! | `joins_failing PLACE MOST PIPE PULL GIVE..` | as `joins`; the pull with this number, from 0 on, fails |
 //! | `joins_broken PLACE PIPE GIVE..` | the same; the wire fails where it is asked for room |
 //! | `no_pipe PLACE ERROR GIVE..` | a wire that gives this is refused |
 //! | `met PLACE`, `missed PLACE MISS` | a link was met, and became no pipe |
 //! | `serve` | the pipes are served |
 //! | `serves MOVED ENDED WAITING UP` | the same; MOVED is `true` or `false`, and the others count pipes |
+//! | `serve_busy MOST` | the pipes that are busy are served, with at most MOST frames of each |
+//! | `serves_busy MOST MOVED ENDED WAITING UP` | the same, with the result as in `serves` |
 //! | `down PIPE WHY` | the oldest pipe that is down is this one |
 //! | `down_with PIPE WHY PUT..` | the same; this was put on its wire |
 //! | `down_asked PIPE WHY ASKED PUT..` | the same; its wire was asked for room ASKED times |

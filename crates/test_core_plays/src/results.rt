@@ -3,7 +3,7 @@ use crate::line::PlayLine;
 use crate::wires::PlayWire;
 use crate::words::{cause_word, why_word};
 use sp_base::{OpName, SpError};
-use sp_core::{BeginError, CtxError, Gone, NowError, Outcome, TopicError};
+use sp_core::{BeginError, CtxError, Gone, NowError, Outcome, Served, TopicError};
 use sp_history::entry::Totals;
 use sp_msg::Message;
 use std::alloc::Global;
@@ -95,6 +95,17 @@ pub fn down(gone: Option<Gone<PlayWire>>, line: &mut PlayLine<'_>) -> Option<Pla
         Some(gone.wire)
     } else {
         None
+    }
+}
+
+/// The result of a serve that the line says, over wires that have passed on nothing.
+pub fn served(line: &mut PlayLine<'_>) -> Served {
+    Served {
+        moved: line.flag(),
+        ended: line.number(),
+        waiting: line.number(),
+        up: line.number(),
+        taken: 0,
     }
 }
 

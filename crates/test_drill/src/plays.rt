@@ -360,7 +360,7 @@ fn plays_on<P: Proto + Send, W: Wire + Send + Drop, G: Gate + Sync, R: Wait + Th
     requires unused { IsUnused (W.shown wire) }
 {
     let mut it = four_callers_of(&mut list, &socket);
-    let up = socket.attach(rt, &mut it.main, wire, 0).is_ok();
+    let up = socket.attach(rt, &mut it.main, wire, 0, u32::MAX).is_ok();
     let (it, played) = calls_on(rt, alloc, &socket, gate, it, &mut source, calls);
     let Closed {
         totals: counted,

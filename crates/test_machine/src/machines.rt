@@ -17,7 +17,7 @@ ghost use Rattle.sp_history.specs.Options.{Fits};
 
 use crate::plays::wrong_line;
 use proto_bus::Bus;
-use proto_pair::Pair;
+use proto_pair::{Pair, Pair1};
 use proto_pipeline::{Pull, Push};
 use proto_pubsub::{Publish, Subscribe};
 use proto_reqrep::{Reply, Request};
@@ -46,6 +46,7 @@ pub fn line_wrong_for(alloc: Global, machines: &str, play: &str) -> Option<usize
 fn of_role(alloc: Global, role: &str, words: &str, play: &str) -> Option<usize> {
     match role {
         "pair" => pair(alloc, words, play),
+        "pair1" => pair1(alloc, words, play),
         "pub" => publish(alloc, words, play),
         "sub" => subscribe(alloc, words, play),
         "req" => request(alloc, words, play),
@@ -137,6 +138,13 @@ fn plays<M: Proto>(alloc: Global, machine: Result<M, NoMemory>, play: &str) -> O
 fn pair(alloc: Global, words: &str, play: &str) -> Option<usize> {
     match kind_of(Role::Pair0, words) {
         Some(it) => plays(alloc, Pair::new(alloc, it.options, it.raw), play),
+        None => Some(0),
+    }
+}
+
+fn pair1(alloc: Global, words: &str, play: &str) -> Option<usize> {
+    match kind_of(Role::Pair1, words) {
+        Some(it) => plays(alloc, Pair1::new(alloc, it.options, it.raw), play),
         None => Some(0),
     }
 }

@@ -5,7 +5,7 @@ use proto_pipeline::Push;
 use sp_base::{Bytes, Role};
 use sp_fakes::MemPace;
 use sp_msg::Message;
-use sp_node::{Node, NodeEnd, NodeEnds};
+use sp_node::{Node, NodeEnd, NodeEnds, RECV_MAX_SIZE};
 use sp_socket::Options;
 use std::process::Abort;
 use std::sync::Wait;
@@ -36,7 +36,11 @@ fn push<'r, R: Wait + Abort + AllocGlobal>(
     let came = made(rt, Bytes::from_slice(alloc, PULLS));
     let net = SlowNet::new(alloc, SlowLink::new(alloc, came, take, most));
     let mut ends = made(rt, NodeEnds::open(rt, machine, net, pace, 0));
-    same(rt, ends.listen("tcp://127.0.0.1:5555"), Ok(()));
+    same(
+        rt,
+        ends.listen("tcp://127.0.0.1:5555", RECV_MAX_SIZE),
+        Ok(()),
+    );
     ends.start()
 }
 

@@ -108,6 +108,21 @@ fn a_wrong_word_is_named(rt: HostRuntime) {
         says nngcat: bad word 2
         says nngcat: see nngcat --help; a word is missing at the end: the value of the last option
         quiet
+        words --pull --recv-max
+        ends usage 2
+        says nngcat: bad word 2
+        says nngcat: see nngcat --help; a word is missing at the end: the value of the last option
+        quiet
+        words --recv-max 4 --listen tcp://127.0.0.1:5555
+        ends usage 4
+        says nngcat: bad word 4
+        says nngcat: see nngcat --help; a word is missing at the end: a role
+        quiet
+        words --pull --recv-max 4
+        ends usage 3
+        says nngcat: bad word 3
+        says nngcat: see nngcat --help; a word is missing at the end: --listen or --dial
+        quiet
         words
         ends usage 0
         says nngcat: bad word 0
@@ -258,8 +273,8 @@ fn a_spelling_of_nngs_own_is_answered_on_the_second_line(rt: HostRuntime) {
         --connect-ipc=--dial ipc://PATH
         -d=nothing stands in its place here
         --delay=nothing stands in its place here
-        -Z=nothing stands in its place here
-        --recv-maxsz=nothing stands in its place here
+        -Z=--recv-max
+        --recv-maxsz=--recv-max
         -q=nothing stands in its place here
         --silent=nothing stands in its place here
         -v=nothing stands in its place here
@@ -273,7 +288,6 @@ fn a_spelling_of_nngs_own_is_answered_on_the_second_line(rt: HostRuntime) {
         --cert=nothing stands in its place here
         --key=nothing stands in its place here
         --zt-home=nothing stands in its place here
-        --pair1=--pair, to a peer that speaks version 0 of the protocol
     ";
     let mut count: u32 = 0;
     for row in rows.split('\n') {
@@ -286,5 +300,5 @@ fn a_spelling_of_nngs_own_is_answered_on_the_second_line(rt: HostRuntime) {
             count = count.saturating_add(1);
         }
     }
-    same(&rt, count, 37);
+    same(&rt, count, 36);
 }

@@ -126,7 +126,7 @@ impl<P: Proto, W: Wire> Caller<P, W> {
         ensures calls { Calls socket.now self.new.pass self.new.ops.items }
         ensures handed_back { IfErr result (λ e. e.1 ≡ w) }
     {
-        socket.attach(rt, &mut self.pass, w, 0)
+        socket.attach(rt, &mut self.pass, w, 0, u32::MAX)
     }
 
     /// Receives a queued message.

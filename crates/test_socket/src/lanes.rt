@@ -13,8 +13,8 @@ use std::process::Abort;
 use std::sync::Wait;
 use std::thread::Threads;
 
-// A lane of `cap` items. Aborts when out of memory.
-fn lane_of(rt: &impl Abort, alloc: Global, cap: u32) -> (LaneIn, LaneOut)
+/// A lane of `cap` items. Aborts when out of memory.
+pub fn lane_of(rt: &impl Abort, alloc: Global, cap: u32) -> (LaneIn, LaneOut)
     requires least { 1 ≤ cap }
     requires most { cap ≤ 8192 }
     ensures { result.0.put ≡ [] }

@@ -21,6 +21,8 @@ mod marks;
 #[cfg(test)]
 mod one;
 #[cfg(test)]
+mod pairs;
+#[cfg(test)]
 mod plays;
 #[cfg(test)]
 mod steps;

@@ -50,7 +50,7 @@ fn receive_over<P: Proto, W: Wire + Drop, R: Wait + Abort>(
     let Some(mut pass) = passes.pop() else {
         unreachable!()
     };
-    let Ok(_) = socket.attach(rt, &mut pass, wire, 0) else {
+    let Ok(_) = socket.attach(rt, &mut pass, wire, 0, u32::MAX) else {
         panic!(rt; "no memory for a pipe")
     };
     let Ok(op) = socket.begin_recv(rt, &mut pass, Ctx(0), None) else {

@@ -109,7 +109,7 @@ fn ask_over<P: Proto, W: Wire + Drop, R: Wait + Abort>(
     let Some(mut pass) = passes.pop() else {
         unreachable!()
     };
-    let Ok(_) = socket.attach(rt, &mut pass, wire, 0) else {
+    let Ok(_) = socket.attach(rt, &mut pass, wire, 0, u32::MAX) else {
         panic!(rt; "no memory for a pipe")
     };
     let replies = ask_both(rt, alloc, &socket, &mut pass);

@@ -39,22 +39,24 @@ pub struct Gone<W> {
 
 impl<P: Proto, W: Wire> Core<P, W> {
     /// The wire, which was not used yet, becomes a pipe over the link with this place; returns its number, one more
-    /// than the pipes that came up before. Takes all memory that the pipe needs until its wire is taken. Refused for
-    /// the first cause of `AttachError` that applies; then the wire is returned unchanged.
+    /// than the pipes that came up before. A frame of more than `max` bytes takes the pipe down; 2^32 - 1 is no limit.
+    /// Takes all memory that the pipe needs until its wire is taken. Refused for the first cause of `AttachError` that
+    /// applies; then the wire is returned unchanged.
     pub fn attach<R: Wait>(
         &mut self,
         rt: &R,
         k: u32,
         w: W,
         place: u32,
+        max: u32,
     ) -> Result<PipeId, (AttachError, W)>
         requires turn { MayTakeTurn ⟦<Core<P, W> as Stands>⟧.stands self.old k }
         requires unused { IsUnused (W.shown w) }
-        ensures turn { TakesOneTurn ⟦<Core<P, W> as Stands>⟧.stands P.kind self.old self.new k (AttachesWire W.shown result w place) }
+        ensures turn { TakesOneTurn ⟦<Core<P, W> as Stands>⟧.stands P.kind self.old self.new k (AttachesWire W.shown result w place max) }
         ensures handed_back { IfErr result (λ e. e.1 ≡ w) }
     {
         self.begin_turn();
-        let returned = self.bring_up(w);
+        let returned = self.bring_up(w, max);
         self.settle(rt);
         returned
     }
@@ -107,10 +109,10 @@ impl<P: Proto, W: Wire> Core<P, W> {
     }
 
     // Makes the wire a pipe, if that can be, with all memory that it needs, while no send to many pipes is pending.
-    fn bring_up(&mut self, w: W) -> Result<PipeId, (AttachError, W)>
+    fn bring_up(&mut self, w: W, max: u32) -> Result<PipeId, (AttachError, W)>
         requires owns { (t : Moment) × Owns P.ties P.room W.shown [] self.old t × NoFlood t }
         requires unused { IsUnused (W.shown w) }
-        ensures up { BringsUp P.ties P.room W.shown result w self.old self.new }
+        ensures up { BringsUp P.ties P.room W.shown result w max self.old self.new }
         ensures handed_back { IfErr result (λ e. e.1 ≡ w) }
     {
         if let Some(e) = self.why_not() {
@@ -123,7 +125,7 @@ impl<P: Proto, W: Wire> Core<P, W> {
         if self.proto.up(p).is_err() {
             return Err((AttachError::NoMemory, w));
         }
-        self.pipes.add(p, w);
+        self.pipes.add(p, max, w);
         self.tally.up();
         Ok(p)
     }

@@ -1,4 +1,4 @@
-use Rattle.std.proofs.Common.{◌≡◌, false, sym, ap, ◌∙◌, subst, List}
+use Rattle.std.proofs.Common.{◌≡◌, refl, false, sym, ap, ◌∙◌, subst, List}
 use Rattle.std.specs.Option.{option_map}
 use Rattle.sp_socket.specs.Singles.{cancelled_in}
 use Rattle.sp_ends.specs.EndViews.{EndsView}
@@ -30,9 +30,9 @@ begun g c =
     plan_begins g.N.L.Link.seen (g.N.Net.seen c.args.net.now) c.in-Ok-open.single c.in-Ok-new.links.links c.args.planned.plan c.body_of.result c.new-2.result c.args.planned.dice c.in-Ok-open.ensures.0 (ap cancelled_in c.in-Ok-open.ensures.2) (setting_is g c) (ap (λ (w : EndsView _). w.links) c.in-Ok-new.ensures) c.new-2.ensures c.requires.built c.body_of.ensures
 
 -- its ends are those of the plan
-of_plan : (g : Over) (c : After-as_slice g) → AllByRecursion (IsEndOf (origins_of c.args.planned.plan c.args.planned.dice)) c.as_slice.result.now
+of_plan : (g : Over) (c : After-as_slice g) → AllByRecursion (IsEndOf (origins_of c.args.planned.plan c.args.planned.dice) c.args.planned.plan.recv_max) c.as_slice.result.now
 of_plan g c =
-    subst (λ (es : List End). AllByRecursion (IsEndOf (origins_of c.args.planned.plan c.args.planned.dice)) es) (sym c.as_slice.ensures) (all_ends_of c.args.planned.plan c.args.planned.dice)
+    subst (λ (es : List End). AllByRecursion (IsEndOf (origins_of c.args.planned.plan c.args.planned.dice) c.args.planned.plan.recv_max) es) (sym c.as_slice.ensures) (all_ends_of c.args.planned.plan c.args.planned.dice)
 
 pub invariant_of-parts : goal.invariant_of-parts
 invariant_of-parts g c =
@@ -84,7 +84,7 @@ returns-clause-runs g c files =
     let start = start_of net plan dice in
     let run = f.stands start (of_plan g at) (begun g made) in
     let followed = subst (λ (es : List End). Follows st es single ends player net between pace pace' out out') c.as_slice.ensures f.followed in
-    subst (λ (s : Status). RunsPlan (run_ways plan.role (origins_of plan dice)) s plan dice (option_map (λ r. r.turns) c.finish.result.record_) (world net files pace out) (world after files pace' out')) (sym c.finish.ensures.status) (runs_plan g.N.L.Link.seen st plan single ends player start between after pace pace' out out' (option_map (λ r. r.turns) c.finish.result.record_) files dice (f.same.1 ∙ setting_is g made) (is_play_of plan files c.body_of.result player c.requires.built c.body_of.ensures (f.same.0 ∙ c.new-2.ensures.script_is)) run f.dry followed (f.printed out.text (prints_nothing out.text first.seen c.new-2.result c.in-Ok-open.ensures.0)) (c.finish.ensures.finished start run))
+    subst (λ (s : Status). RunsPlan (run_ways plan.role (origins_of plan dice)) s plan dice (option_map (λ r. r.turns) c.finish.result.record_) (world net files pace out) (world after files pace' out')) (sym c.finish.ensures.status) (runs_plan g.N.L.Link.seen st plan single ends player start between after pace pace' out out' (option_map (λ r. r.turns) c.finish.result.record_) files dice refl (f.same.1 ∙ setting_is g made) (is_play_of plan files c.body_of.result player c.requires.built c.body_of.ensures (f.same.0 ∙ c.new-2.ensures.script_is)) run f.dry followed (f.printed out.text (prints_nothing out.text first.seen c.new-2.result c.in-Ok-open.ensures.0)) (c.finish.ensures.finished start run))
 
 pub returns-clause-once : goal.returns-clause-once
 returns-clause-once g c =

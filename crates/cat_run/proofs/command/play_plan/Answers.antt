@@ -3,7 +3,7 @@ use Rattle.std.proofs.Common.{refl}
 use Rattle.sp_base.specs.declared.role.Role.TheVariants as roles
 use Rattle.proto_pipeline.specs.Pulls.{Ties as PullTies, pull_kind}
 use Rattle.proto_pipeline.specs.Pushes.{Ties as PushTies, push_kind}
-use Rattle.proto_pair.specs.Pairs.{Ties as PairTies, pair_kind}
+use Rattle.proto_pair.specs.Pairs.{Ties as PairTies, pair_kind, pair1_kind}
 use Rattle.proto_rep.specs.Reps.{Ties as ReplyTies, reply_kind}
 use Rattle.proto_reqrep.specs.Reqs.{Ties as RequestTies, req_kind}
 use Rattle.proto_bus.specs.Buses.{Ties as BusTies, bus_kind}
@@ -21,6 +21,9 @@ play-requires-in-Push-clause-starts g c = as_usual PushTies c.new-in-Push.result
 
 pub play-requires-in-Pair0-clause-starts : goal.play-requires-in-Pair0-clause-starts
 play-requires-in-Pair0-clause-starts g c = as_usual PairTies c.new-in-Pair0.result (pair_kind false) c.usual-options.result c.args.planned.plan.role roles.Pair0 c.args.planned.dice c.usual-options.ensures c.in-Pair0.is refl c.new-in-Pair0.ensures
+
+pub play-requires-in-Pair1-clause-starts : goal.play-requires-in-Pair1-clause-starts
+play-requires-in-Pair1-clause-starts g c = as_usual PairTies c.new-in-Pair1.result (pair1_kind false) c.usual-options.result c.args.planned.plan.role roles.Pair1 c.args.planned.dice c.usual-options.ensures c.in-Pair1.is refl c.new-in-Pair1.ensures
 
 pub play-requires-in-Rep-clause-starts : goal.play-requires-in-Rep-clause-starts
 play-requires-in-Rep-clause-starts g c = as_usual ReplyTies c.new-in-Rep.result (reply_kind roles.Rep false) c.usual-options.result c.args.planned.plan.role roles.Rep c.args.planned.dice c.usual-options.ensures c.in-Rep.is refl c.new-in-Rep.ensures

@@ -23,11 +23,11 @@ miss-requires-clause-stands g c =
 pub attach-requires : goal.attach-requires
 attach-requires g c =
     let s = c.requires.stands in
-    new_unused g.N.L.Link.seen s.0.origins c.args.single.now.setting c.args.opening c.requires.opened s.4 c.in-Ok.wire c.in-Ok.ensures
+    new_unused g.N.L.Link.seen s.0.origins c.args.single.now.setting c.args.opening c.args.max c.requires.opened s.4 c.in-Ok.wire c.in-Ok.ensures
 
 pub returns-in-Err-clause-stands : goal.returns-in-Err-clause-stands
 returns-in-Err-clause-stands g c =
-    λ start ns k s run.
+    λ start ns k s run limit.
     let same : HandStands g.N.L.Link.seen c.args.single.now.setting start c.args.single.now.seen (g.N.Net.seen c.args.net.now) ns k (g.N.L.Link.seen c.in-Err.link) = subst (λ (x : g.row.N-L.Denot). HandStands g.N.L.Link.seen c.args.single.now.setting start c.args.single.now.seen (g.N.Net.seen c.args.net.now) ns k (g.N.L.Link.seen x)) (sym c.in-Err.ensures) s in
     let cause : IsCauseOf start.origins c.args.single.now.setting c.args.single.now.seen misses.NoMemory (g.N.L.Link.seen c.in-Err.link) = subst (λ (x : g.row.N-L.Denot). IsCauseOf start.origins c.args.single.now.setting c.args.single.now.seen misses.NoMemory (g.N.L.Link.seen x)) (sym c.in-Err.ensures) (c.args.opening.way, (run.scheme, run.known), tt) in
     c.miss.ensures.stands start ns k same cause
@@ -41,8 +41,8 @@ link_back v w a l e f i = some_same a l (sym i ∙ (ap link_of (sym f) ∙ e))
 
 pub returns-in-Ok-attach-clause-stands : goal.returns-in-Ok-attach-clause-stands
 returns-in-Ok-attach-clause-stands g c =
-    λ start ns k s run. let took = c.in-Ok-attach.ensures.turn in
-    up_stands g.N.L.Link.seen start (g.N.Net.seen c.args.net.now) ns k _ c.args.single.now c.attach.new.self took c.args.opening c.in-Ok-attach.field-0 c.place-place.result c.in-Ok.wire c.requires.opened run c.in-Ok.ensures c.place-place.ensures took.said.0.0 took.said.0.1 s
+    λ start ns k s run limit. let took = c.in-Ok-attach.ensures.turn in
+    up_stands g.N.L.Link.seen start (g.N.Net.seen c.args.net.now) ns k _ c.args.single.now c.attach.new.self took c.args.opening c.args.max c.in-Ok-attach.field-0 c.place-place.result c.in-Ok.wire c.requires.opened run limit c.in-Ok.ensures c.place-place.ensures took.said.0.0 took.said.0.1 s
 
 pub returns-in-Ok-attach-clause-quietly : goal.returns-in-Ok-attach-clause-quietly
 returns-in-Ok-attach-clause-quietly g c =
@@ -68,15 +68,15 @@ pub miss-requires-in-Err-attach-clause-stands : goal.miss-requires-in-Err-attach
 miss-requires-in-Err-attach-clause-stands g c =
     let s = c.requires.stands in
     let took = c.in-Err-attach.ensures.turn in
-    let same = link_back c.in-Err-attach.wire c.in-Ok.wire (g.N.L.Link.seen c.args.opening.link) (g.N.L.Link.seen c.in-Some.link) c.in-Some.ensures.link took.said.1 (new_link g.N.L.Link.seen s.0.origins c.args.single.now.setting c.args.opening c.requires.opened s.4 c.in-Ok.wire c.in-Ok.ensures) in
+    let same = link_back c.in-Err-attach.wire c.in-Ok.wire (g.N.L.Link.seen c.args.opening.link) (g.N.L.Link.seen c.in-Some.link) c.in-Some.ensures.link took.said.1 (new_link g.N.L.Link.seen s.0.origins c.args.single.now.setting c.args.opening c.args.max c.requires.opened s.4 c.in-Ok.wire c.in-Ok.ensures) in
     let again = hand_again g.N.L.Link.seen s.0 (g.N.Net.seen c.args.net.now) s.1 s.2 _ c.args.single.now c.attach.new.self took c.args.opening took.said.0.0 s.3 in
     (s.0, s.1, s.2, subst (λ (x : LinkView). HandStands g.N.L.Link.seen c.attach.new.self.setting s.0 c.attach.new.self.seen (g.N.Net.seen c.args.net.now) s.1 s.2 x) same again)
 
 pub returns-in-Some-clause-stands : goal.returns-in-Some-clause-stands
 returns-in-Some-clause-stands g c =
-    λ start ns k s run.
+    λ start ns k s run limit.
     let took = c.in-Err-attach.ensures.turn in
-    let same = link_back c.in-Err-attach.wire c.in-Ok.wire (g.N.L.Link.seen c.args.opening.link) (g.N.L.Link.seen c.in-Some.link) c.in-Some.ensures.link took.said.1 (new_link g.N.L.Link.seen start.origins c.args.single.now.setting c.args.opening c.requires.opened run c.in-Ok.wire c.in-Ok.ensures) in
+    let same = link_back c.in-Err-attach.wire c.in-Ok.wire (g.N.L.Link.seen c.args.opening.link) (g.N.L.Link.seen c.in-Some.link) c.in-Some.ensures.link took.said.1 (new_link g.N.L.Link.seen start.origins c.args.single.now.setting c.args.opening c.args.max c.requires.opened run c.in-Ok.wire c.in-Ok.ensures) in
     let again = hand_again g.N.L.Link.seen start (g.N.Net.seen c.args.net.now) ns k _ c.args.single.now c.attach.new.self took c.args.opening took.said.0.0 s in
     let cause = refused_cause g.N.L.Link.seen start (g.N.Net.seen c.args.net.now) ns k _ c.args.single.now c.attach.new.self took c.args.opening c.in-Err-attach.why c.miss_for-why.result c.miss_for-why.ensures took.said.0.1 run s in
     c.miss-in-Err-attach.ensures.stands start ns k

@@ -20,7 +20,7 @@ attach-requires-clause-stands g c =
     let n = c.args.newcomer in
     let m = c.greet-progress.new.self in
     let e = c.greet-progress.ensures in
-    (s.0, s.1, s.2, to_hand g.N.L.Link.seen c.args.single.now.setting s.0 c.args.single.now.seen s.1 s.2 (g.N.Net.seen c.args.net.now) n (g.N.L.Link.seen m.link) e.later s.3, of_run_later g.N.L.Link.seen s.0.origins c.args.single.now.setting n.opening m e.later e.opened.same s.3.progressing.ungreeted.0.of_run)
+    (s.0, s.1, s.2, to_hand g.N.L.Link.seen c.args.single.now.setting s.0 c.args.single.now.seen s.1 s.2 (g.N.Net.seen c.args.net.now) n (g.N.L.Link.seen m.link) e.later s.3, of_run_later g.N.L.Link.seen s.0.origins c.args.single.now.setting n.opening m e.later e.opened.same s.3.progressing.ungreeted.0.of_run, s.3.progressing.ungreeted.0.limit)
 
 pub miss-requires-clause-stands : goal.miss-requires-clause-stands
 miss-requires-clause-stands g c =
@@ -31,10 +31,10 @@ pub returns-in-Stays-clause-stands : goal.returns-in-Stays-clause-stands
 returns-in-Stays-clause-stands g c =
     λ start ns k s.
     let n = c.args.newcomer in
-    let m : Newcomer g.row.N-L.Denot = record { opening = c.greet-progress.new.self; met = n.met; from = n.from } in
+    let m : Newcomer g.row.N-L.Denot = record { opening = c.greet-progress.new.self; met = n.met; from = n.from; max = n.max } in
     let e = c.greet-progress.ensures in
     let waits = subst (λ (x : Progress). CameTo g.N.L.Link.seen x (g.N.L.Link.seen n.opening.link) c.greet-progress.new.self) c.in-Stays.ensures.0 e.opened.came_to in
-    stays_behind g.N.L.Link.seen c.args.single.now.setting start c.args.single.now.seen ns k (g.N.Net.seen c.args.net.now) n m e.later e.opened.same refl waits.0 waits.1 waits.2 (has_waited g.N.L.Link.seen (g.N.L.Link.seen n.opening.link) c.greet-progress.new.self waits.3) s
+    stays_behind g.N.L.Link.seen c.args.single.now.setting start c.args.single.now.seen ns k (g.N.Net.seen c.args.net.now) n m e.later e.opened.same refl refl waits.0 waits.1 waits.2 (has_waited g.N.L.Link.seen (g.N.L.Link.seen n.opening.link) c.greet-progress.new.self waits.3) s
 
 pub returns-in-Attach-clause-stands : goal.returns-in-Attach-clause-stands
 returns-in-Attach-clause-stands g c =
@@ -42,7 +42,7 @@ returns-in-Attach-clause-stands g c =
     let n = c.args.newcomer in
     let m = c.greet-progress.new.self in
     let e = c.greet-progress.ensures in
-    c.attach.ensures.stands start ns k (to_hand g.N.L.Link.seen c.args.single.now.setting start c.args.single.now.seen ns k (g.N.Net.seen c.args.net.now) n (g.N.L.Link.seen m.link) e.later s) (of_run_later g.N.L.Link.seen start.origins c.args.single.now.setting n.opening m e.later e.opened.same s.progressing.ungreeted.0.of_run)
+    c.attach.ensures.stands start ns k (to_hand g.N.L.Link.seen c.args.single.now.setting start c.args.single.now.seen ns k (g.N.Net.seen c.args.net.now) n (g.N.L.Link.seen m.link) e.later s) (of_run_later g.N.L.Link.seen start.origins c.args.single.now.setting n.opening m e.later e.opened.same s.progressing.ungreeted.0.of_run) s.progressing.ungreeted.0.limit
 
 pub returns-in-Attach-clause-back : goal.returns-in-Attach-clause-back
 returns-in-Attach-clause-back g c =

@@ -32,15 +32,15 @@ unreachable-requires g c = no_link _ _ c.args.lane _ c.in-Err.ensures.turn.said.
 
 pub returns-in-Ok-clause-on : goal.returns-in-Ok-clause-on
 returns-in-Ok-clause-on g c =
-    let took = c.in-Ok.ensures.turn in goes_up _ c.args.single.now c.attach.new.self took c.in-Ok.pipe _ took.said.0.0 took.said.0.1
+    let took = c.in-Ok.ensures.turn in goes_up _ c.args.single.now c.attach.new.self took c.in-Ok.pipe _ _ took.said.0.0 took.said.0.1
 
 pub returns-in-Ok-clause-links : goal.returns-in-Ok-clause-links
 returns-in-Ok-clause-links g c =
-    let took = c.in-Ok.ensures.turn in keeps_lane g.L.Link.seen _ c.args.single.now c.attach.new.self took c.in-Ok.pipe _ took.said.0.0 (half_name c.args.lane c.requires.fresh) took.said.0.1
+    let took = c.in-Ok.ensures.turn in keeps_lane g.L.Link.seen _ c.args.single.now c.attach.new.self took c.in-Ok.pipe _ _ took.said.0.0 refl (half_name c.args.lane c.requires.fresh) took.said.0.1
 
 pub returns-in-Ok-clause-came : goal.returns-in-Ok-clause-came
 returns-in-Ok-clause-came g c =
-    let took = c.in-Ok.ensures.turn in came_up _ c.args.single.now c.attach.new.self took c.in-Ok.pipe _ took.said.0.0 took.said.0.1
+    let took = c.in-Ok.ensures.turn in came_up _ c.args.single.now c.attach.new.self took c.in-Ok.pipe _ _ took.said.0.0 took.said.0.1
 
 pub returns-in-None-clause-on : goal.returns-in-None-clause-on
 returns-in-None-clause-on g c =

@@ -9,8 +9,8 @@ use Rattle.cat_rounds.proofs.run_parts.RunParts.follow.Given as goal
 
 abbrev pub invariant-loop-end : goal.invariant-loop-end
 invariant-loop-end g l = record {
-  some : (start : Beginning) × AllByRecursion (IsEndOf start.origins) l.ends × LinksStand g.L.Link.seen start l.self.single l.self.ends.links (g.N.Net.seen l.net) false;
-  stands : (start : Beginning) → AllByRecursion (IsEndOf start.origins) l.ends → RunStands g.L.Link.seen start l.fn.self.single l.fn.self.ends.links l.fn.self.player (g.N.Net.seen l.fn.net) false → RunStands g.L.Link.seen start l.self.single l.self.ends.links l.self.player (g.N.Net.seen l.net) false;
+  some : (start : Beginning) × AllByRecursion (IsEndOf start.origins l.max) l.ends × LinksStand g.L.Link.seen start l.self.single l.self.ends.links (g.N.Net.seen l.net) false;
+  stands : (start : Beginning) → AllByRecursion (IsEndOf start.origins l.max) l.ends → RunStands g.L.Link.seen start l.fn.self.single l.fn.self.ends.links l.fn.self.player (g.N.Net.seen l.fn.net) false → RunStands g.L.Link.seen start l.self.single l.self.ends.links l.self.player (g.N.Net.seen l.net) false;
   single : l.self.single ≡ l.fn.self.single;
   player : l.self.player ≡ l.fn.self.player;
   listens : length l.self.ends.links.listeners ≡ listens_of (take l.end-index l.ends);

@@ -4,4 +4,4 @@ use Rattle.core_state.proofs.pipes.Pipes.add.Goals as goal
 
 pub returns : goal.returns
 returns g c = λ t place lawful h is unused.
-    came_up g.W.Wire.shown c.args.self.now _ t c.args.id place c.args.wire lawful h c.requires is unused c.push_back_reserved.ensures.items refl refl
+    came_up g.W.Wire.shown c.args.self.now _ t c.args.id place c.args.limit c.args.wire lawful h c.requires is unused c.push_back_reserved.ensures.items refl refl refl

@@ -13,17 +13,17 @@ use Rattle.proto_pubsub.proofs.subscribe.SubscribeProto.frame.Goals as goal
 
 pub returns-in-None-clause-kept : goal.returns-in-None-clause-kept
 returns-in-None-clause-kept c =
-    λ t l h.
+    λ t short l h.
     let was = c.args.self.now in
     let olds = c.deref_mut.ensures.value in
     let all = c.keep_in_all.ensures.whole c.in-None.is in
     let contexts = contexts_written was.contexts c.keep_in_all.new.contexts c.deref_mut.result.now olds (long_map (kept_in was.raw was.options c.args.m) c.keep_in_all.new.contexts c.deref_mut.result.now all) ∙ all ∙ ap (map (kept_in was.raw was.options c.args.m)) olds in
     let is : Subscribe = record { alloc = was.alloc; raw = was.raw; options = was.options; contexts = with_items was.contexts c.keep_in_all.new.contexts; waiting = was.waiting; looked = 0 } in
-    whole_ties was t c.args.p c.args.m h (allowed_before t (Frame c.args.p c.args.m.body) l) c.requires is contexts refl refl (refl, refl)
+    whole_ties was t c.args.p c.args.m h short (allowed_before t (Frame c.args.p c.args.m.body) l) c.requires is contexts refl refl (refl, refl)
 
 pub returns-in-Some-clause-kept : goal.returns-in-Some-clause-kept
 returns-in-Some-clause-kept c =
-    λ t l h.
+    λ t short l h.
     let was = c.args.self.now in
     let olds = c.deref_mut.ensures.value in
     let d : ℕ = c.in-Some.c in
@@ -34,7 +34,7 @@ returns-in-Some-clause-kept c =
     let stops : StopsAt (takes_frame was.raw was.options c.args.m.body) (kept_in was.raw was.options c.args.m) d was.contexts.items is.contexts.items =
     subst (λ (ys : List SubContextView). StopsAt (takes_frame was.raw was.options c.args.m.body) (kept_in was.raw was.options c.args.m) d was.contexts.items ys) (sym written)
     (subst (λ (xs : List SubContextView). StopsAt (takes_frame was.raw was.options c.args.m.body) (kept_in was.raw was.options c.args.m) d xs c.keep_in_all.new.contexts) olds st) in
-    dry_ties was t c.args.p c.args.m h (allowed_before t (Frame c.args.p c.args.m.body) l) c.requires is d stops refl refl (refl, refl)
+    dry_ties was t c.args.p c.args.m h short (allowed_before t (Frame c.args.p c.args.m.body) l) c.requires is d stops refl refl (refl, refl)
 
 pub returns-in-Some-clause-one : goal.returns-in-Some-clause-one
 returns-in-Some-clause-one c =
@@ -54,12 +54,12 @@ returns-in-Some-clause-raw c =
 
 pub returns-in-Some-clause-dry : goal.returns-in-Some-clause-dry
 returns-in-Some-clause-dry c =
-    λ t d l h e.
+    λ t d short l h e.
     let was = c.args.self.now in
     let is : c.in-Some.c ≡ d = cc in
     let st : StopsAt (takes_frame was.raw was.options c.args.m.body) (kept_in was.raw was.options c.args.m) c.in-Some.c was.contexts.items c.keep_in_all.new.contexts =
     subst (λ (xs : List SubContextView). StopsAt (takes_frame was.raw was.options c.args.m.body) (kept_in was.raw was.options c.args.m) c.in-Some.c xs c.keep_in_all.new.contexts) c.deref_mut.ensures.value (c.in-Some.ensures.stops c.in-Some.c refl) in
-    subst (λ (k : ℕ). NeedsCopy t.z (past t) k c.args.p c.args.m.body) is (dry_needs was t c.args.p c.args.m h (allowed_before t (Frame c.args.p c.args.m.body) l) c.requires c.keep_in_all.new.contexts c.in-Some.c st)
+    subst (λ (k : ℕ). NeedsCopy t.z (past t) k c.args.p c.args.m.body) is (dry_needs was t c.args.p c.args.m h short (allowed_before t (Frame c.args.p c.args.m.body) l) c.requires c.keep_in_all.new.contexts c.in-Some.c st)
 
 pub returns-in-None-clause-prefixes : goal.returns-in-None-clause-prefixes
 returns-in-None-clause-prefixes c = λ ts h. wanted_by_prefix ts c.args.m.body h

@@ -2,7 +2,6 @@
 use Rattle.std.proofs.Common.{ℕ, ◌≡◌, ◌≤◌, ◌<◌, ◌+◌, ap, arith, length, true, false, sym, ◌∙◌, List}
 use Rattle.std.specs.Prelude.{nat_le}
 use Rattle.std.proofs.lemmas.Bool.Decides.{nat_tests}
-use Rattle.sp_ends.specs.EndViews.{LinkEndsView}
 use Rattle.sp_ends.specs.declared.newcomer.Newcomer.{Newcomer}
 use Rattle.sp_ends.specs.Listening.{own_of}
 use Rattle.sp_ends.proofs.NewcomingAsks.{asking_none, asking_more, asking_last, asking_full, asking_all, asked_one, still_listens, listener_at}

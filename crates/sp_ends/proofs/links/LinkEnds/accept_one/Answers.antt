@@ -12,7 +12,7 @@ meet_newcomer-requires-clause-fresh g c =
     let net = g.N.Net.seen c.args.net.now in
     let at : slice_get c.args.self.now.listeners c.args.i ≡ Some c.index.result.now = at_index c.self.inside.listeners.items c.args.self.now.listeners c.args.i c.index.result.now (ap (λ (e : LinkEndsView g.row.L.Denot). e.listeners) c.self.view_is) c.requires.inside c.index.ensures in
     let i = c.requires.in_turn in
-    (i.0, net, i.1, arrives_served i.0.origins c.args.self.now c.args.i c.index.result.now (g.L.Link.seen c.in-Got.link) c.serving-way.result net (g.N.Net.seen c.accept.new.self) i.1.of_run at (c.serving-way.ensures c.index.result.now at) (c.requires.listens c.index.result.now at) c.in-Got.ensures.linking.shows)
+    (i.0, net, i.1, arrives_served i.0.origins c.args.self.now c.args.i c.index.result.now (g.L.Link.seen c.in-Got.link) c.serving-way.result c.listen_limit-max.result net (g.N.Net.seen c.accept.new.self) i.1.of_run at (c.listen_limit-max.ensures c.index.result.now at) (c.serving-way.ensures c.index.result.now at) (c.requires.listens c.index.result.now at) c.in-Got.ensures.linking.shows)
 
 pub returns-in-NotYet-clause-in_turn : goal.returns-in-NotYet-clause-in_turn
 returns-in-NotYet-clause-in_turn g c start i = untouched g.L.Link.seen start c.args.self.now (g.N.Net.seen c.args.net.now) (g.N.Net.seen c.accept.new.self) c.args.single.now c.args.now 0 c.in-NotYet.ensures.linking.shows.0 i
@@ -30,7 +30,7 @@ pub returns-in-Got-clause-in_turn : goal.returns-in-Got-clause-in_turn
 returns-in-Got-clause-in_turn g c start i =
     let net = g.N.Net.seen c.args.net.now in
     let at : slice_get c.args.self.now.listeners c.args.i ≡ Some c.index.result.now = at_index c.self.inside.listeners.items c.args.self.now.listeners c.args.i c.index.result.now (ap (λ (e : LinkEndsView g.row.L.Denot). e.listeners) c.self.view_is) c.requires.inside c.index.ensures in
-    c.meet_newcomer.ensures.in_turn start net i (arrives_served start.origins c.args.self.now c.args.i c.index.result.now (g.L.Link.seen c.in-Got.link) c.serving-way.result net (g.N.Net.seen c.accept.new.self) i.of_run at (c.serving-way.ensures c.index.result.now at) (c.requires.listens c.index.result.now at) c.in-Got.ensures.linking.shows)
+    c.meet_newcomer.ensures.in_turn start net i (arrives_served start.origins c.args.self.now c.args.i c.index.result.now (g.L.Link.seen c.in-Got.link) c.serving-way.result c.listen_limit-max.result net (g.N.Net.seen c.accept.new.self) i.of_run at (c.listen_limit-max.ensures c.index.result.now at) (c.serving-way.ensures c.index.result.now at) (c.requires.listens c.index.result.now at) c.in-Got.ensures.linking.shows)
 
 pub returns-in-NotYet-clause-frees : goal.returns-in-NotYet-clause-frees
 returns-in-NotYet-clause-frees g c =

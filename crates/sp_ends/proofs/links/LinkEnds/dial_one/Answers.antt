@@ -1,4 +1,5 @@
-use Rattle.std.proofs.Common.{◌≡◌, ◌≤◌, ◌<◌, ◌+◌, ◌∙◌, ℕ, List, length, Option, Some, None, Result, IfOk, subst, sym, ap, refl, arith, slice_get, set, inl, inr}
+use Rattle.std.proofs.Common.{◌≡◌, ◌<◌, ◌+◌, ◌∙◌, ℕ, List, length, Some, None, Result, IfOk, subst, sym, ap, arith, slice_get, set, inl}
+use Rattle.std.proofs.lemmas.List.{length-set}
 use Rattle.std.proofs.lemmas.Option.{slice_get_within}
 use Rattle.sp_base.specs.Addresses.{scheme_of}
 use Rattle.sp_base.specs.Steps.{IsHandedOut, LinkedAs, Untouched}
@@ -19,7 +20,7 @@ use Rattle.sp_ends.specs.EndsTurns.{InTurn, Arrives, AsksNet, SameEnds, DialsOne
 use Rattle.sp_ends.proofs.ListReads.{at_index}
 use Rattle.sp_ends.proofs.NewcomingTurn.{untouched}
 use Rattle.sp_ends.proofs.NewcomingDials.{turned_as, tried, tried_free, said_none, asked_none, asked_on, asked_got, dialed_at, dials_then}
-use Rattle.sp_ends.proofs.TurnParts.{dials_addrs, ends_both, of_run_on}
+use Rattle.sp_ends.proofs.TurnParts.{dials_targets, ends_both, of_run_on}
 use Rattle.sp_ends.proofs.Arriving.{arrives_dialed, set_at}
 use Rattle.sp_ends.proofs.FreedDialers.{redials_none, redials_got}
 use Rattle.sp_ends.proofs.DialedLinks.{knows_none, knows_got}
@@ -46,13 +47,20 @@ noted : (g : Over) (c : After-dialed g) (same : Type 0) → (same → place_afte
 noted g c same none =
     dialed_at g.L.Link.seen c.dial-said.result c.args.now same c.args.i c.self.inside.dialers.items c.args.self.now.dialers c.index_mut.result.now c.dialed.new.self (dialers_are g c) (there g c) c.index_mut.ensures.value c.dialed.ensures none
 
+-- the dialers are as many as before
+still_there : (g : Over) (c : After-dialed g) → c.args.i < length (set c.self.inside.dialers.items c.args.i c.dialed.new.self)
+still_there g c =
+    let long = ap length (dialers_are g c) in
+    let same = length-set c.self.inside.dialers.items c.args.i c.dialed.new.self in
+    let lt = there g c in omega (arith, lt, long, same)
+
 -- the ends after that
 module _ (g : Over) (c : After-dialed g) where
   abbrev now_ends : LinkEndsView g.row.L.Denot
   now_ends = record { role = c.self.inside.role; dice = c.self.inside.dice; asked = c.self.inside.asked; listeners = c.self.inside.listeners.items; dialers = set c.self.inside.dialers.items c.args.i c.dialed.new.self; newcomers = c.self.inside.newcomers.items }
 
   same_ends : (same : Type 0) → (same → place_after g.L.Link.seen c.dial-said.result ≡ None) → SameEnds c.args.self.now now_ends
-  same_ends same none = tried _ c.args.self.now _ c.self.view_is (dials_addrs c.args.i c.args.now same c.args.self.now.dialers _ (noted g c same none))
+  same_ends same none = tried _ c.args.self.now _ c.self.view_is (dials_targets c.args.i c.args.now same c.args.self.now.dialers _ (noted g c same none))
 
 -- no link was handed out
 module _ (g : Over) (c : After-dialed g) (none : place_after g.L.Link.seen c.dial-said.result ≡ None) where
@@ -199,7 +207,7 @@ module _ (g : Over) (c : After-dialed g) (link : g.row.L.Denot) (is : c.dial-sai
   was_dialed =
       noted g c ((g.N.Net.seen c.dial-said.new.self).opened ≡ (g.N.Net.seen c.args.net.now).opened) (λ m. absurd (let o = handed.opened in omega (arith, m, o)))
 
-module _ (g : Over) (c : After-dialed g) (link : g.row.L.Denot) (is : c.dial-said.result ≡ linked.Got link) (o : Origins) (run : AreOfRun o c.args.self.now) (way : Result Way NoMemory) (n : ℕ) (says : (q : Dialer) → slice_get (set c.self.inside.dialers.items c.args.i c.dialed.new.self) c.args.i ≡ Some q → IfOk way (λ w. w ≡ asking q.addr (c.self.inside.dice + n))) where
+module _ (g : Over) (c : After-dialed g) (link : g.row.L.Denot) (is : c.dial-said.result ≡ linked.Got link) (o : Origins) (run : AreOfRun o c.args.self.now) (way : Result Way NoMemory) (max : ℕ) (n : ℕ) (limits : (q : Dialer) → slice_get (set c.self.inside.dialers.items c.args.i c.dialed.new.self) c.args.i ≡ Some q → max ≡ q.max) (says : (q : Dialer) → slice_get (set c.self.inside.dialers.items c.args.i c.dialed.new.self) c.args.i ≡ Some q → IfOk way (λ w. w ≡ asking q.addr (c.self.inside.dice + n))) where
   was : c.index_mut.result.now ≡ c.requires.dialable.0
   was = some_dialer (sym (at_index c.self.inside.dialers.items c.args.self.now.dialers c.args.i c.index_mut.result.now (dialers_are g c) (there g c) c.index_mut.ensures.value) ∙ c.requires.dialable.1)
 
@@ -209,10 +217,16 @@ module _ (g : Over) (c : After-dialed g) (link : g.row.L.Denot) (is : c.dial-sai
   here : slice_get (set c.self.inside.dialers.items c.args.i c.dialed.new.self) c.args.i ≡ Some c.dialed.new.self
   here = set_at c.self.inside.dialers.items c.args.i c.dialed.new.self (let long = ap length (dialers_are g c) in let lt = there g c in omega (arith, lt, long))
 
-  arrives : Arrives o (g.L.Link.seen link) way (g.N.Net.seen c.args.net.now) (g.N.Net.seen c.dial-said.new.self)
+  arrives : Arrives o (g.L.Link.seen link) way max (g.N.Net.seen c.args.net.now) (g.N.Net.seen c.dial-said.new.self)
   arrives =
-      arrives_dialed o (now_ends g c) c.args.i n c.requires.dialable.0 c.dialed.new.self (g.L.Link.seen link) way (g.N.Net.seen c.args.net.now) (g.N.Net.seen c.dial-said.new.self) (of_run_on o c.args.self.now (now_ends g c) (first_ends g c link is) run) here (c.dialed.ensures.addr ∙ ap (λ (d : Dialer). d.addr) was) (says c.dialed.new.self here) c.requires.dialable.2
+      arrives_dialed o (now_ends g c) c.args.i n c.requires.dialable.0 c.dialed.new.self (g.L.Link.seen link) way max (g.N.Net.seen c.args.net.now) (g.N.Net.seen c.dial-said.new.self) (of_run_on o c.args.self.now (now_ends g c) (first_ends g c link is) run) here (limits c.dialed.new.self here) (c.dialed.ensures.addr ∙ ap (λ (d : Dialer). d.addr) was) (says c.dialed.new.self here) c.requires.dialable.2
       (subst (λ (d : Dialer). IsHandedOut (g.L.Link.seen link) (Some (scheme_of d.addr)) (g.N.Net.seen c.args.net.now) (g.N.Net.seen c.dial-said.new.self)) (sym named) (handed g c link is))
+
+pub dial_limit-max-requires : goal.dial_limit-max-requires
+dial_limit-max-requires g c = record { inside = still_there g (goal.at.dial_limit-max-requires g c).After-dialed }
+
+pub asking-way-requires : goal.asking-way-requires
+asking-way-requires g c = record { inside = still_there g (goal.at.asking-way-requires g c).After-dialed }
 
 pub meet_newcomer-requires-clause-fresh : goal.meet_newcomer-requires-clause-fresh
 meet_newcomer-requires-clause-fresh g c =
@@ -223,7 +237,7 @@ meet_newcomer-requires-clause-fresh g c =
       i.0,
       g.N.Net.seen c.args.net.now,
       turned_as g.L.Link.seen i.0 c.args.self.now c.asking-way.new.self (g.N.Net.seen c.args.net.now) c.args.single.now c.args.now 0 same (ap (λ (v : LinkEndsView g.row.L.Denot). v.newcomers) a.same ∙ newcomers_are g d) i.1,
-      arrives g d c.in-Got.link c.in-Got.is i.0.origins i.1.of_run c.asking-way.result a.way.0 a.way.2,
+      arrives g d c.in-Got.link c.in-Got.is i.0.origins i.1.of_run c.asking-way.result c.dial_limit-max.result a.way.0 c.dial_limit-max.ensures a.way.2,
     )
 
 pub returns-in-Got-clause-in_turn : goal.returns-in-Got-clause-in_turn
@@ -232,7 +246,7 @@ returns-in-Got-clause-in_turn g c start i =
     let a = c.asking-way.ensures in
     let same = asked_on c.args.self.now (now_ends g d) c.asking-way.new.self (first_ends g d c.in-Got.link c.in-Got.is) a.same in
     c.meet_newcomer.ensures.in_turn start (g.N.Net.seen c.args.net.now) (turned_as g.L.Link.seen start c.args.self.now c.asking-way.new.self (g.N.Net.seen c.args.net.now) c.args.single.now c.args.now 0 same (ap (λ (v : LinkEndsView g.row.L.Denot). v.newcomers) a.same ∙ newcomers_are g d) i)
-    (arrives g d c.in-Got.link c.in-Got.is start.origins i.of_run c.asking-way.result a.way.0 a.way.2)
+    (arrives g d c.in-Got.link c.in-Got.is start.origins i.of_run c.asking-way.result c.dial_limit-max.result a.way.0 c.dial_limit-max.ensures a.way.2)
 
 pub returns-in-Got-clause-same : goal.returns-in-Got-clause-same
 returns-in-Got-clause-same g c =

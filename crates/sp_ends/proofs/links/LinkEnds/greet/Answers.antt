@@ -1,5 +1,5 @@
 -- The link is after the others, or with the socket, or back.
-use Rattle.std.proofs.Common.{refl, sym, ap, ◌∙◌, subst, List, [], ◌∷◌, ◌++◌, ℕ, length, length-append, arith, inl, inr}
+use Rattle.std.proofs.Common.{refl, sym, ap, subst, List, [], ◌∷◌, ◌++◌, ℕ, length, length-append, arith, inl, inr}
 use Rattle.sp_ends.specs.declared.newcomer.Newcomer.{Newcomer}
 use Rattle.sp_ends.specs.declared.dialer.Dialer.{Dialer}
 use Rattle.sp_ends.specs.EndViews.{LinkEndsView}

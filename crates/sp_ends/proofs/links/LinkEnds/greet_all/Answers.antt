@@ -1,5 +1,5 @@
 -- The first link is taken out, greeted, and is then after the others, or gone.
-use Rattle.std.proofs.Common.{◌≡◌, refl, sym, ap, ◌∙◌, subst, List, ℕ, ◌+◌, ◌-◌, length, arith}
+use Rattle.std.proofs.Common.{◌≡◌, refl, sym, ap, subst, List, ℕ, ◌+◌, ◌-◌, length, arith}
 use Rattle.std.specs.Prelude.{suc}
 use Rattle.sp_ends.specs.EndViews.{LinkEndsView}
 use Rattle.sp_ends.specs.declared.newcomer.Newcomer.{Newcomer}

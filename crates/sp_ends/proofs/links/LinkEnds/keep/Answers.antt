@@ -1,8 +1,7 @@
 -- The link is counted, and comes after the others.
-use Rattle.std.proofs.Common.{◌<◌, refl, ap, subst, sym, arith, length, List}
+use Rattle.std.proofs.Common.{refl, ap, subst, sym, arith, length}
 use Rattle.sp_ends.specs.EndViews.{LinkEndsView}
-use Rattle.sp_ends.specs.declared.newcomer.Newcomer.{Newcomer}
-use Rattle.sp_ends.specs.Listening.{room_for, IsFromOne, AreCounted}
+use Rattle.sp_ends.specs.Listening.{IsFromOne}
 use Rattle.sp_ends.proofs.Owned.{counted_as, counted_more, counted_small}
 use Rattle.sp_ends.proofs.links.LinkEnds.keep.Goals as goal
 

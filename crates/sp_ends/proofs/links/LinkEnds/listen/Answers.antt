@@ -1,12 +1,11 @@
 -- There is room for one more listener, and for its links; then the net listens.
-use Rattle.std.proofs.Common.{◌≡◌, ◌≤◌, ◌+◌, ◌++◌, ◌∷◌, [], ◌∙◌, ℕ, List, Bool, true, false, refl, sym, ap, subst, length, length-append, deque_capacity, arith, Result, Ok, Err, OnOk, is_err}
+use Rattle.std.proofs.Common.{◌≡◌, ◌+◌, ◌++◌, ◌∷◌, [], ◌∙◌, List, false, refl, sym, ap, subst, length, length-append, deque_capacity, arith, Result, Ok, Err, OnOk, is_err}
 use Rattle.sp_ends.specs.declared.listener.Listener.{Listener}
 use Rattle.sp_ends.specs.declared.newcomer.Newcomer.{Newcomer}
 use Rattle.sp_ends.specs.EndViews.{LinkEndsView}
 use Rattle.sp_base.specs.declared.outside.Listened.{Listened}
 use Rattle.sp_base.specs.Steps.{ListenedAs}
 use Rattle.sp_ends.specs.AddedEnds.{FailsToListen}
-use Rattle.sp_ends.specs.Listening.{AreCounted, room_for}
 use Rattle.sp_ends.proofs.Owned.{counted_as, counted_listener}
 use Rattle.sp_ends.proofs.links.LinkEnds.listen.Goals.{in-Ws-1, in-Inproc-1, in-Tcp-1, in-Ipc-1}
 use Rattle.sp_ends.proofs.links.LinkEnds.listen.Goals as goal
@@ -58,7 +57,7 @@ pub invariant_of-self-in-At : goal.invariant_of-self-in-At
 invariant_of-self-in-At g c =
     let ok = went_well c.reserve-2.result _ c.reserve-2.ensures.ok (sym c.is_err-2.ensures.value ∙ c.if-is_err-3.false) in
     let first = ap length c.reserve.ensures.items in
-    let long : length c.push_reserved.new.self.items ≡ length c.self.inside.listeners.items + 1 = omega (arith, ap length c.push_reserved.ensures.items, length-append c.reserve.new.self.items (record { at = c.in-At.at; addr = c.in-Ok.copy } ∷ []), first) in
+    let long : length c.push_reserved.new.self.items ≡ length c.self.inside.listeners.items + 1 = omega (arith, ap length c.push_reserved.ensures.items, length-append c.reserve.new.self.items (record { at = c.in-At.at; addr = c.in-Ok.copy; max = c.args.max } ∷ []), first) in
     counted_as (c.self.inside.greetings.items ++ 0 ∷ []) c.push_reserved-in-At.new.self.items (length c.self.inside.listeners.items + 1) (length c.push_reserved.new.self.items) c.self.inside.newcomers.items c.reserve-2.new.self.items (deque_capacity c.reserve-2.new.self) (deque_capacity c.reserve-2.new.self)
     (c.push_reserved-in-At.ensures.items ∙ ap (λ xs. xs ++ 0 ∷ []) c.reserve-else-is_err.ensures.items) long c.reserve-2.ensures.items (omega arith)
     (counted_listener c.self.inside.greetings.items (length c.self.inside.listeners.items) c.self.inside.newcomers.items (deque_capacity c.self.inside.newcomers) (deque_capacity c.reserve-2.new.self) c.self.invariant
@@ -78,10 +77,11 @@ returns-in-Failed g c =
 
 pub returns-in-At : goal.returns-in-At
 returns-in-At g c =
-    let l : Listener = record { at = c.in-At.at; addr = c.in-Ok.copy } in
+    let l : Listener = record { at = c.in-At.at; addr = c.in-Ok.copy; max = c.args.max } in
     let s = subst (λ (r : Listened). ListenedAs r c.args.addr.now (g.N.Net.seen c.args.net.now) (g.N.Net.seen c.listen.new.self)) c.in-At.is c.listen.ensures.shows in (
       l,
       c.in-Ok.ensures,
+      refl,
       grown_as (record { role = c.self.inside.role; dice = c.self.inside.dice; asked = c.self.inside.asked; listeners = c.self.inside.listeners.items; dialers = c.self.inside.dialers.items; newcomers = c.self.inside.newcomers.items }) c.args.self.now l c.push_reserved.new.self.items c.reserve-2.new.self.items
           (c.push_reserved.ensures.items ∙ ap (λ xs. xs ++ l ∷ []) c.reserve.ensures.items) c.reserve-2.ensures.items c.self.view_is,
       record { fresh = s.fresh; listens = s.listens; opened = s.opened; back = s.back; faults = c.listen.ensures.faults; idles = c.listen.ensures.idles },

@@ -24,8 +24,8 @@ fitting_is : {L : Type 0} (way result : Result Way NoMemory) (ends : LinkEndsVie
 fitting_is way (Ok w) ends begins f is = subst (λ (x : Result Way NoMemory). IfOk x (λ y. y ≡ begins)) f.0 is
 fitting_is way (Err e) ends begins f is = tt
 
-fitting_arrives : {L : Type 0} (o : Origins) (link : LinkView) (way result : Result Way NoMemory) (ends : LinkEndsView L) (a b : NetView) → FitsIn way result ends → Arrives o link way a b → Arrives o link result a b
-fitting_arrives o link way result ends a b f r = record { begins = r.begins; is = fitting_is way result ends r.begins f r.is; known = r.known; can = r.can; handed = r.handed }
+fitting_arrives : {L : Type 0} (o : Origins) (link : LinkView) (way result : Result Way NoMemory) (max : ℕ) (ends : LinkEndsView L) (a b : NetView) → FitsIn way result ends → Arrives o link way max a b → Arrives o link result max a b
+fitting_arrives o link way result max ends a b f r = record { begins = r.begins; is = fitting_is way result ends r.begins f r.is; known = r.known; can = r.can; limit = r.limit; handed = r.handed }
 
 -- where it is there, there is room
 fitting_room : {L : Type 0} (way result : Result Way NoMemory) (ends : LinkEndsView L) (begins : Way) → FitsIn way result ends → result ≡ Ok begins → length ends.newcomers < room_for (length ends.listeners)
@@ -43,7 +43,7 @@ pub greet-requires-clause-in_turn : goal.greet-requires-clause-in_turn
 greet-requires-clause-in_turn g c =
     let f = c.requires.fresh in
     let n = c.in-Ok.ensures in
-    (f.0, 0, newcomer_met g.L.Link.seen f.0 f.1 (g.N.Net.seen c.args.net.now) c.args.self.now c.args.single.now c.met.new.self c.args.now c.in-Ok.newcomer c.args.link c.place-place.result c.self.inside.role c.fitting-way.result n.0 c.args.from c.place-place.ensures n.1 n.2 (ap (λ (e : LinkEndsView g.row.L.Denot). e.role) c.self.view_is) c.met.ensures.turn (fitting_arrives f.0.origins (g.L.Link.seen c.args.link) c.args.way c.fitting-way.result c.args.self.now f.1 (g.N.Net.seen c.args.net.now) c.fitting-way.ensures f.3) f.2)
+    (f.0, 0, newcomer_met g.L.Link.seen f.0 f.1 (g.N.Net.seen c.args.net.now) c.args.self.now c.args.single.now c.met.new.self c.args.now c.in-Ok.newcomer c.args.link c.place-place.result c.self.inside.role c.fitting-way.result c.args.max n.0 c.args.from c.place-place.ensures n.1 n.2 (ap (λ (e : LinkEndsView g.row.L.Denot). e.role) c.self.view_is) c.met.ensures.turn (fitting_arrives f.0.origins (g.L.Link.seen c.args.link) c.args.way c.fitting-way.result c.args.max c.args.self.now f.1 (g.N.Net.seen c.args.net.now) c.fitting-way.ensures f.3) f.2)
 
 pub greet-requires-clause-room : goal.greet-requires-clause-room
 greet-requires-clause-room g c = let n = c.in-Ok.ensures in fitting_room c.args.way c.fitting-way.result c.args.self.now n.0 c.fitting-way.ensures n.1
@@ -57,7 +57,7 @@ greet-requires-clause-dry g c = meets_dry c.place-place.result c.args.single.now
 pub returns-in-Ok-clause-in_turn : goal.returns-in-Ok-clause-in_turn
 returns-in-Ok-clause-in_turn g c start before i arrives =
     let n = c.in-Ok.ensures in
-    c.greet.ensures.in_turn start 0 (newcomer_met g.L.Link.seen start before (g.N.Net.seen c.args.net.now) c.args.self.now c.args.single.now c.met.new.self c.args.now c.in-Ok.newcomer c.args.link c.place-place.result c.self.inside.role c.fitting-way.result n.0 c.args.from c.place-place.ensures n.1 n.2 (ap (λ (e : LinkEndsView g.row.L.Denot). e.role) c.self.view_is) c.met.ensures.turn (fitting_arrives start.origins (g.L.Link.seen c.args.link) c.args.way c.fitting-way.result c.args.self.now before (g.N.Net.seen c.args.net.now) c.fitting-way.ensures arrives) i)
+    c.greet.ensures.in_turn start 0 (newcomer_met g.L.Link.seen start before (g.N.Net.seen c.args.net.now) c.args.self.now c.args.single.now c.met.new.self c.args.now c.in-Ok.newcomer c.args.link c.place-place.result c.self.inside.role c.fitting-way.result c.args.max n.0 c.args.from c.place-place.ensures n.1 n.2 (ap (λ (e : LinkEndsView g.row.L.Denot). e.role) c.self.view_is) c.met.ensures.turn (fitting_arrives start.origins (g.L.Link.seen c.args.link) c.args.way c.fitting-way.result c.args.max c.args.self.now before (g.N.Net.seen c.args.net.now) c.fitting-way.ensures arrives) i)
 
 pub returns-in-Ok-clause-serves : goal.returns-in-Ok-clause-serves
 returns-in-Ok-clause-serves g c =
@@ -69,17 +69,17 @@ returns-in-Ok-clause-young g c = λ a. c.greet.ensures.young 0 a
 
 -- ---- Out of memory
 
-module _ {L : Type 0} (seen : L → LinkView) (start : Beginning) (before net : NetView) (ends : LinkEndsView L) (a b : SingleView) (t : ℕ) (link back : L) (place : ℕ) (way : Result Way NoMemory) (at : place ≡ (seen link).place) (took : TookOne (MeetsAt place) a b) (r : Arrives start.origins (seen link) way before net) (same : back ≡ link) where
+module _ {L : Type 0} (seen : L → LinkView) (start : Beginning) (before net : NetView) (ends : LinkEndsView L) (a b : SingleView) (t : ℕ) (link back : L) (place : ℕ) (way : Result Way NoMemory) (max : ℕ) (at : place ≡ (seen link).place) (took : TookOne (MeetsAt place) a b) (r : Arrives start.origins (seen link) way max before net) (same : back ≡ link) where
   hand : InTurn seen start ends before a t 0 → HandStands seen b.setting start b.seen net ends.newcomers 0 (seen back)
   hand i = subst (λ (l : L). HandStands seen b.setting start b.seen net ends.newcomers 0 (seen l)) (sym same) (met_hand seen start before net ends a b t (seen link) place (Some (scheme_for r.begins)) at took r.handed i)
 
   cause : IsCauseOf start.origins b.setting b.seen misses.NoMemory (seen back)
-  cause = subst (λ (l : L). IsCauseOf start.origins b.setting b.seen misses.NoMemory (seen l)) (sym same) (dry_cause start b.setting b.seen (seen link) way before net r)
+  cause = subst (λ (l : L). IsCauseOf start.origins b.setting b.seen misses.NoMemory (seen l)) (sym same) (dry_cause start b.setting b.seen (seen link) way max before net r)
 
 pub miss-requires-clause-stands : goal.miss-requires-clause-stands
 miss-requires-clause-stands g c =
     let f = c.requires.fresh in
-    (f.0, c.args.self.now.newcomers, 0, hand g.L.Link.seen f.0 f.1 (g.N.Net.seen c.args.net.now) c.args.self.now c.args.single.now c.met.new.self c.args.now c.args.link c.in-Err.link c.place-place.result c.args.way c.place-place.ensures c.met.ensures.turn f.3 c.in-Err.ensures f.2)
+    (f.0, c.args.self.now.newcomers, 0, hand g.L.Link.seen f.0 f.1 (g.N.Net.seen c.args.net.now) c.args.self.now c.args.single.now c.met.new.self c.args.now c.args.link c.in-Err.link c.place-place.result c.args.way c.args.max c.place-place.ensures c.met.ensures.turn f.3 c.in-Err.ensures f.2)
 
 pub returns-in-Err-clause-in_turn : goal.returns-in-Err-clause-in_turn
 returns-in-Err-clause-in_turn g c start before i r =
@@ -90,8 +90,8 @@ returns-in-Err-clause-in_turn g c start before i r =
     let b = c.met.new.self in
     let d = c.miss.new.single in
     let same = newcomers_lost c.args.self.now c.lost.new.self c.lost.ensures.same in
-    let in_hand = hand seen start before net c.args.self.now a b c.args.now c.args.link c.in-Err.link c.place-place.result c.args.way c.place-place.ensures c.met.ensures.turn r c.in-Err.ensures i in
-    let why = cause seen start before net c.args.self.now a b c.args.now c.args.link c.in-Err.link c.place-place.result c.args.way c.place-place.ensures c.met.ensures.turn r c.in-Err.ensures in
+    let in_hand = hand seen start before net c.args.self.now a b c.args.now c.args.link c.in-Err.link c.place-place.result c.args.way c.args.max c.place-place.ensures c.met.ensures.turn r c.in-Err.ensures i in
+    let why = cause seen start before net c.args.self.now a b c.args.now c.args.link c.in-Err.link c.place-place.result c.args.way c.args.max c.place-place.ensures c.met.ensures.turn r c.in-Err.ensures in
     let links = c.miss.ensures.stands start c.args.self.now.newcomers 0 in_hand why in
     turn_on seen start c.args.self.now c.lost.new.self before net' c.args.now 0 0 a d (ends_lost c.args.self.now c.lost.new.self c.lost.ensures.same) (quiet_both a b d (meets_quiet c.place-place.result a b c.met.ensures.turn) c.miss.ensures.quietly) c.miss.ensures.sound i
     (subst (λ (ns : List (Newcomer g.row.L.Denot)). LinksStand seen d.setting start d.seen net' ns 0) (sym same) links)

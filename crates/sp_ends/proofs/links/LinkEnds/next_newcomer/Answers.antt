@@ -1,5 +1,5 @@
 -- The first link is no longer counted.
-use Rattle.std.proofs.Common.{refl, subst, arith, List, ◌∷◌, sym, length, deque_capacity}
+use Rattle.std.proofs.Common.{refl, subst, arith, List, length, deque_capacity}
 use Rattle.sp_ends.specs.declared.newcomer.Newcomer.{Newcomer}
 use Rattle.sp_ends.specs.Listening.{AreCounted}
 use Rattle.sp_ends.proofs.Owned.{counted_as, counted_rest}
